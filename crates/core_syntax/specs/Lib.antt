@@ -1,0 +1,12 @@
+pub mod Limits
+pub mod Linear
+pub mod Lists
+pub mod Made
+pub mod Nodes
+pub mod Norm
+pub mod NormValue
+pub mod Refine
+pub mod Sorts
+pub mod Syntax
+pub mod Value
+pub mod Word
