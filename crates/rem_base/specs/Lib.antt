@@ -1,0 +1,5 @@
+pub mod Counts
+pub mod Taken
+pub mod InMemory
+pub mod Adapters
+pub mod Sure
