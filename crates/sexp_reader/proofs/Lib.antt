@@ -1,0 +1,15 @@
+pub mod Built
+pub mod ByGrammar
+pub mod Fronts
+pub mod Leftmost
+pub mod Rooms
+pub mod Short
+pub mod Spelled
+pub mod Steps
+pub mod Texts
+pub mod Trees
+pub mod Unique
+pub mod Values
+pub mod Weights
+pub mod Whole
+pub mod Within
