@@ -1,0 +1,4 @@
+pub mod LetterLemmas
+pub mod RefusalLemmas
+mod Rows
+pub mod SameLemmas
