@@ -1,0 +1,4 @@
+pub mod Forms
+pub mod Arrays
+pub mod Lent
+pub mod formers
