@@ -1,0 +1,7 @@
+pub mod Frames
+pub mod Spread
+pub mod Operands
+pub mod Steps
+pub mod Applied
+pub mod Loops
+pub mod Runs
