@@ -1,0 +1,15 @@
+pub mod Answers
+pub mod Dues
+pub mod Forms
+pub mod Greatest
+pub mod JobWords
+pub mod Literals
+pub mod Lowers
+pub mod Maps
+pub mod MeansLemmas
+pub mod Meant
+pub mod OneDue
+pub mod Programs
+pub mod ReadTerms
+pub mod Runs
+pub mod Simulates

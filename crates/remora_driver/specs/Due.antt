@@ -1,0 +1,139 @@
+-- The answers that are due.
+use Rattle.std.specs.Prelude.{◌≡◌, ℕ, ◌+◌, ◌<◌, ◌≤◌, List, length, Some, None, Ok, Err}
+use Rattle.core_syntax.specs.declared.span.Span.{Span}
+use Rattle.core_syntax.specs.declared.errors.StuckKind.{StuckKind}
+use Rattle.core_syntax.specs.declared.errors.TrapKind.{TrapKind}
+use Rattle.core_syntax.specs.declared.errors.TrapKind.TheVariants.{Overflow}
+use Rattle.array_values.specs.declared.array.Array.{Array}
+use Rattle.code_text.specs.declared.code.Block.{Block}
+use Rattle.code_text.specs.Blame.{CodeText}
+use Rattle.code_text.specs.Ends.{Ends, GoesOn}
+use Rattle.code_text.specs.Machine.{Outcome, Done, Trap, Stuck}
+use Rattle.sexp_reader.specs.Forms.{Forms}
+use Rattle.sexp_reader.specs.Reads.{Reads}
+use Rattle.remora_driver.specs.declared.job.Job.{Job}
+use Rattle.remora_driver.specs.declared.job.Job.TheVariants.{Run, Build, Exec}
+use Rattle.remora_driver.specs.declared.status.Status.{Status}
+use Rattle.remora_driver.specs.declared.status.Status.TheVariants as status
+use Rattle.remora_driver.specs.Arrays.{Integers, values}
+use Rattle.remora_driver.specs.Jobs.{longest_source, longest_code, IsJob, IsCall}
+use Rattle.remora_driver.specs.Lowering.{code_of, steps_of}
+use Rattle.remora_driver.specs.Meaning.{MeansProgram}
+use Rattle.remora_driver.specs.Terms.{Term}
+use Rattle.remora_driver.specs.Texts.{line, array_text, refusal_text, trap_text, stuck_text, still_running_text, usage_text}
+use Rattle.remora_driver.specs.Values.{shape_of, value_of}
+
+-- a status, and the text that is written with it
+pub record Answer : Type 0 where
+  pub status : Status
+  pub text : List ℕ
+
+-- the usage line
+abbrev pub usage : Answer
+usage = record { status = status.Usage; text = line usage_text }
+
+-- a refusal and its line
+abbrev pub refused : ℕ → Span → Answer
+refused number at = record { status = status.Refused number at; text = line (refusal_text number at) }
+
+-- a value and its line
+abbrev pub shown : Array → Answer
+shown a = record { status = status.Ok; text = line (array_text a) }
+
+-- a trap and its line
+abbrev pub trapped : TrapKind → Answer
+trapped kind = record { status = status.Trap kind; text = line (trap_text kind) }
+
+-- a stuck machine and its line
+abbrev pub stuck : StuckKind → Answer
+stuck kind = record { status = status.Stuck kind; text = line (stuck_text kind) }
+
+-- a budget that was used up, and its line
+abbrev pub still_running : Answer
+still_running = record { status = status.StillRunning; text = line still_running_text }
+
+-- the empty place at the start of a text
+abbrev pub front : Span
+front = record { from = 0; to = 0; line = 1; col = 1 }
+
+-- ---- runs of code
+
+-- the answer that shows how a run ends
+abbrev pub outcome_answer : Outcome → Answer
+outcome_answer (Done a) = shown a
+outcome_answer (Trap kind) = trapped kind
+outcome_answer (Stuck kind) = stuck kind
+
+-- what is due for a code of which so many steps may be done
+pub data IsCodeDue (code : List Block) (budget : ℕ) (a : Answer) : Type 0 where
+  ends : (n : ℕ) (o : Outcome) → n ≤ budget → Ends code n o → a ≡ outcome_answer o → IsCodeDue code budget a
+  goes_on : GoesOn code budget → a ≡ still_running → IsCodeDue code budget a
+
+-- The code of a term ends as the term means: with its value, after exactly the stated number of steps, or with the trap
+-- where the value overflows.
+pub data EndsAsMeant (t : Term) (n : ℕ) (o : Outcome) : Type 0 where
+  value : (v : Integers) → value_of t ≡ Some v → n ≡ steps_of t + 1 → o ≡ Done (values v) → Ends (code_of t) n o → EndsAsMeant t n o
+  overflow : value_of t ≡ None → n ≤ steps_of t → o ≡ Trap Overflow → Ends (code_of t) n o → EndsAsMeant t n o
+
+-- what is due for a term, of whose code so many steps may be done
+pub data IsTermDue (t : Term) (budget : ℕ) (a : Answer) : Type 0 where
+  in_time : (n : ℕ) (o : Outcome) → EndsAsMeant t n o → n ≤ budget → a ≡ outcome_answer o → IsTermDue t budget a
+  too_late : (n : ℕ) (o : Outcome) → EndsAsMeant t n o → budget < n → GoesOn (code_of t) budget → a ≡ still_running → IsTermDue t budget a
+
+-- the text of the term's code, which is the text of a code, and of one that ends as the term means
+pub record IsBuilt (t : Term) (a : Answer) : Type 0 where
+  pub status : a.status ≡ status.Ok
+  pub text : CodeText (code_of t) a.text
+  pub meant : (n : ℕ) × (o : Outcome) × EndsAsMeant t n o
+
+-- ---- programs
+
+-- the text means a program with this body
+pub record IsProgram (bytes : List ℕ) (t : Term) : Type 0 where
+  pub forms : Forms
+  pub reads : Reads bytes forms
+  pub means : MeansProgram forms t
+
+-- why a program source is refused, in this order
+pub data IsRefused (bytes : List ℕ) (number : ℕ) (at : Span) : Type 0 where
+  too_long : longest_source < length bytes → number ≡ 31 → at ≡ front → IsRefused bytes number at
+  no_program : length bytes ≤ longest_source → ((t : Term) → ¬ (IsProgram bytes t)) → number ≡ 90 → at ≡ front → IsRefused bytes number at
+  no_frame : (t : Term) → length bytes ≤ longest_source → IsProgram bytes t → shape_of t ≡ Err at → number ≡ 22 → IsRefused bytes number at
+
+-- the text means a program with this body, whose applications have their frames
+pub record IsAccepted (bytes : List ℕ) (t : Term) : Type 0 where
+  pub short : length bytes ≤ longest_source
+  pub means : IsProgram bytes t
+  pub shape : List ℕ
+  pub framed : shape_of t ≡ Ok shape
+
+-- what is due for a program source that is run
+pub data IsRunDue (bytes : List ℕ) (budget : ℕ) (a : Answer) : Type 0 where
+  run_refused : (number : ℕ) (at : Span) → IsRefused bytes number at → a ≡ refused number at → IsRunDue bytes budget a
+  runs : (t : Term) → IsAccepted bytes t → IsTermDue t budget a → IsRunDue bytes budget a
+
+-- what is due for a program source of which the code is built
+pub data IsBuildDue (bytes : List ℕ) (a : Answer) : Type 0 where
+  build_refused : (number : ℕ) (at : Span) → IsRefused bytes number at → a ≡ refused number at → IsBuildDue bytes a
+  builds : (t : Term) → IsAccepted bytes t → IsBuilt t a → IsBuildDue bytes a
+
+-- ---- code texts
+
+-- what is due for a code text, in this order
+pub data IsExecDue (bytes : List ℕ) (budget : ℕ) (a : Answer) : Type 0 where
+  text_too_long : longest_code < length bytes → a ≡ refused 31 front → IsExecDue bytes budget a
+  no_code : length bytes ≤ longest_code → ((c : List Block) → ¬ (CodeText c bytes)) → a ≡ refused 90 front → IsExecDue bytes budget a
+  executes : (c : List Block) → length bytes ≤ longest_code → CodeText c bytes → IsCodeDue c budget a → IsExecDue bytes budget a
+
+-- ---- calls
+
+-- what is due for a job on these bytes
+abbrev pub IsJobDue : Job → List ℕ → Answer → Type 0
+IsJobDue (Run budget) bytes a = IsRunDue bytes budget a
+IsJobDue Build bytes a = IsBuildDue bytes a
+IsJobDue (Exec budget) bytes a = IsExecDue bytes budget a
+
+-- what is due for these words and bytes
+pub data IsDue (words : List (List ℕ)) (bytes : List ℕ) (a : Answer) : Type 0 where
+  no_job : ¬ (IsCall words) → a ≡ usage → IsDue words bytes a
+  does : (job : Job) → IsJob words job → IsJobDue job bytes a → IsDue words bytes a

@@ -1,0 +1,14 @@
+pub mod Arrays
+pub mod Codes
+pub mod Due
+pub mod Jobs
+pub mod Laws
+pub mod Lowering
+pub mod Meaning
+pub mod Program
+pub mod Results
+pub mod Sources
+pub mod Terms
+pub mod Texts
+pub mod Top
+pub mod Values

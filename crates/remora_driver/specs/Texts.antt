@@ -1,0 +1,51 @@
+-- The texts that the commands write.
+use Rattle.std.specs.Prelude.{ℕ, List, [], ◌∷◌, ◌++◌, codes, flat_map}
+use Rattle.std.specs.Fmt.{decimal, signed_decimal}
+use Rattle.core_syntax.specs.declared.span.Span.{Span}
+use Rattle.core_syntax.specs.declared.errors.TrapKind.{TrapKind}
+use Rattle.core_syntax.specs.declared.errors.TrapKind.TheVariants.{Overflow, Zero, Size}
+use Rattle.core_syntax.specs.declared.errors.StuckKind.{StuckKind}
+use Rattle.core_syntax.specs.declared.errors.StuckKind.TheVariants.{Operand, Kind, Rank, Shape}
+use Rattle.array_values.specs.declared.array.Array.{Array}
+use Rattle.array_values.specs.declared.value.Value.{Value}
+use Rattle.array_values.specs.declared.value.Value.TheVariants.{Int, Prim}
+
+-- a text that ends its line
+abbrev pub line : List ℕ → List ℕ
+line text = text ++ 10 ∷ []
+
+-- numbers with single spaces between them
+abbrev pub dims_text : List ℕ → List ℕ
+dims_text [] = []
+dims_text (d ∷ ds) = decimal d ++ flat_map (λ e. 32 ∷ decimal e) ds
+
+-- an atom: an integer in decimal digits, a function as `#fn`
+abbrev pub atom_text : Value → List ℕ
+atom_text (Int z) = signed_decimal z
+atom_text (Prim op) = codes "#fn"
+
+-- an array: its dimensions in parentheses, and its atoms
+abbrev pub array_text : Array → List ℕ
+array_text a = codes "(array (" ++ dims_text a.dims ++ codes ")" ++ flat_map (λ v. 32 ∷ atom_text v) a.atoms ++ codes ")"
+
+-- a refusal: its number, and the line and column of its place
+abbrev pub refusal_text : ℕ → Span → List ℕ
+refusal_text number at = codes "refused " ++ (decimal number ++ (codes " " ++ (decimal at.line ++ (codes ":" ++ decimal at.col))))
+
+abbrev pub trap_text : TrapKind → List ℕ
+trap_text Overflow = codes "trap overflow"
+trap_text Zero = codes "trap zero"
+trap_text Size = codes "trap size"
+
+abbrev pub stuck_text : StuckKind → List ℕ
+stuck_text Operand = codes "stuck operand"
+stuck_text Kind = codes "stuck kind"
+stuck_text Rank = codes "stuck rank"
+stuck_text Shape = codes "stuck shape"
+
+abbrev pub still_running_text : List ℕ
+still_running_text = codes "still running"
+
+-- how the program is called
+abbrev pub usage_text : List ℕ
+usage_text = codes "usage: remora check FILE, build FILE, run or exec or reduce FILE [--steps N], soak K"

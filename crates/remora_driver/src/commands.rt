@@ -1,0 +1,101 @@
+// What the words ask for, done on the bytes of a source.
+ghost use Rattle.code_text.specs.Text.{code_text};
+ghost use Rattle.remora_driver.specs.declared.status.Status.TheVariants as statuses;
+ghost use Rattle.std.specs.Prelude.{◌≡◌, ◌≤◌, ℕ, length, IfOk};
+ghost use Rattle.machine.specs.Answers.{Answers};
+ghost use Rattle.remora_driver.specs.Due.{IsCodeDue, IsRunDue, IsBuildDue, IsExecDue, IsJobDue};
+ghost use Rattle.remora_driver.specs.Jobs.{longest, longest_source, longest_code};
+ghost use Rattle.remora_driver.specs.Sources.{seen, told};
+
+use crate::answer::{Answer, FRONT, NOT_BUILT, refusal, shown_array, still_running, stuck, trap};
+use crate::compiling::{CompileError, compile};
+use crate::job::Job;
+use crate::status::Status;
+use code_text::{Code, CodeRefusal, parse, print};
+use core_syntax::Memory;
+use machine::{Outcome, load};
+use std::alloc::Global;
+
+// What a code comes to, of which so many steps may be done.
+fn outcome(alloc: Global, code: &Code, budget: u64) -> Result<Outcome, Memory>
+    ensures { IfOk result (λ o. (steps : ℕ) × Answers code.now budget steps o) }
+{
+    let mut machine = load(alloc, code)?;
+    machine.run(budget)
+}
+
+// The answer that shows an outcome.
+fn outcome_answer(alloc: Global, outcome: Outcome) -> Result<Answer, Memory>
+    ensures { IfOk result (λ a. seen a ≡ told outcome) }
+{
+    match outcome {
+        Outcome::Done(array) => shown_array(alloc, &array),
+        Outcome::Trap(kind) => trap(alloc, kind),
+        Outcome::Going => still_running(alloc),
+        Outcome::Stuck(kind) => stuck(alloc, kind),
+    }
+}
+
+// The answer of a code of which so many steps may be done.
+fn run_code(alloc: Global, code: &Code, budget: u64) -> Result<Answer, Memory>
+    ensures { IfOk result (λ a. IsCodeDue code.now budget (seen a)) }
+{
+    let outcome = outcome(alloc, code, budget)?;
+    outcome_answer(alloc, outcome)
+}
+
+fn run(alloc: Global, source: &[u8], budget: u64) -> Result<Answer, Memory>
+    requires { length source.now ≤ longest_source }
+    ensures { IfOk result (λ a. IsRunDue source.now budget (seen a)) }
+{
+    match compile(alloc, source) {
+        Ok(code) => run_code(alloc, &code, budget),
+        Err(CompileError::Refused { number, span }) => refusal(alloc, number, span),
+        Err(CompileError::Memory) => Err(Memory),
+    }
+}
+
+// The answer that shows the text of a code.
+fn code_answer(alloc: Global, code: &Code) -> Result<Answer, Memory>
+    ensures { IfOk result (λ a. seen a ≡ record { status = statuses.Ok; text = code_text code.now }) }
+{
+    let text = print(alloc, code)?;
+    Ok(Answer {
+        status: Status::Ok,
+        text,
+    })
+}
+
+fn build(alloc: Global, source: &[u8]) -> Result<Answer, Memory>
+    requires { length source.now ≤ longest_source }
+    ensures { IfOk result (λ a. IsBuildDue source.now (seen a)) }
+{
+    match compile(alloc, source) {
+        Ok(code) => code_answer(alloc, &code),
+        Err(CompileError::Refused { number, span }) => refusal(alloc, number, span),
+        Err(CompileError::Memory) => Err(Memory),
+    }
+}
+
+fn exec(alloc: Global, text: &[u8], budget: u64) -> Result<Answer, Memory>
+    requires { length text.now ≤ longest_code }
+    ensures { IfOk result (λ a. IsExecDue text.now budget (seen a)) }
+{
+    match parse(alloc, text) {
+        Ok(code) => run_code(alloc, &code, budget),
+        Err(CodeRefusal::Refused { .. }) => refusal(alloc, NOT_BUILT, FRONT),
+        Err(CodeRefusal::Memory) => Err(Memory),
+    }
+}
+
+/// The answer to a job on these bytes, which are no more than the job takes.
+pub fn answer_to(alloc: Global, job: Job, bytes: &[u8]) -> Result<Answer, Memory>
+    requires { length bytes.now ≤ longest job }
+    ensures { IfOk result (λ a. IsJobDue job bytes.now (seen a)) }
+{
+    match job {
+        Job::Run { budget } => run(alloc, bytes, budget),
+        Job::Build => build(alloc, bytes),
+        Job::Exec { budget } => exec(alloc, bytes, budget),
+    }
+}

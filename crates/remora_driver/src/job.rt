@@ -1,0 +1,82 @@
+// What the words ask for.
+ghost use Rattle.std.specs.Prelude.{◌≡◌, ℕ, MatchOption, map, string_bytes};
+ghost use Rattle.remora_driver.specs.Jobs.{longest as longest_of, IsBudget, limited_job as limited_job_of, plain_job as plain_job_of, IsJob};
+
+/// The budget of words that give none.
+const USUAL_BUDGET: u64 = 10_000_000;
+
+/// The greatest budget.
+const MOST_STEPS: u64 = 1_000_000_000;
+
+/// The most digits of a budget.
+const MOST_DIGITS: usize = 10;
+
+/// What the words ask for, by docs/LANGUAGE.md, "Calls". A budget is the number of steps that the machine may do.
+#[derive(Clone, Copy, Debug, PartialEq, Eq)]
+pub enum Job {
+    Run { budget: u64 },
+    Build,
+    Exec { budget: u64 },
+}
+
+/// The most bytes of a program source.
+const LONGEST_SOURCE: usize = 1 << 20;
+
+/// The most bytes of a code text.
+const LONGEST_CODE: usize = 1 << 24;
+
+impl Job {
+    /// The most bytes that the job reads.
+    pub fn longest(&self) -> usize
+        ensures { result ≡ longest_of self.now }
+    {
+        match self {
+            Job::Run { .. } | Job::Build => LONGEST_SOURCE,
+            Job::Exec { .. } => LONGEST_CODE,
+        }
+    }
+}
+
+fn budget(word: &str) -> Option<u64>
+    ensures { MatchOption result ((n : ℕ) → ¬ (IsBudget word.now n)) (λ n. IsBudget word.now n) }
+{
+    if word.len() > MOST_DIGITS || word.starts_with('+') {
+        return None;
+    }
+    match word.parse::<u64>() {
+        Ok(steps) if (1..=MOST_STEPS).contains(&steps) => Some(steps),
+        _ => None,
+    }
+}
+
+fn limited_job(command: &str, budget: u64) -> Option<Job>
+    ensures { result ≡ limited_job_of command.now budget }
+{
+    match command {
+        "run" => Some(Job::Run { budget }),
+        "exec" => Some(Job::Exec { budget }),
+        _ => None,
+    }
+}
+
+fn plain_job(command: &str) -> Option<Job>
+    ensures { result ≡ plain_job_of command.now }
+{
+    match command {
+        "build" => Some(Job::Build),
+        _ => limited_job(command, USUAL_BUDGET),
+    }
+}
+
+/// The job of these words, if they ask for one.
+pub fn job_of(words: &[String]) -> Option<Job>
+    ensures { MatchOption result ((j : Job) → ¬ (IsJob (map string_bytes words.now) j)) (λ j. IsJob (map string_bytes words.now) j) }
+{
+    match words {
+        [command, _file] => plain_job(command.as_str()),
+        [command, _file, flag, steps] if flag.as_str() == "--steps" => {
+            limited_job(command.as_str(), budget(steps.as_str())?)
+        }
+        _ => None,
+    }
+}

@@ -1,0 +1,117 @@
+// The texts that the commands write.
+ghost use Rattle.std.specs.Prelude.{◌≡◌, ◌++◌, ◌∷◌, OnOk, IfOk, string_bytes, flat_map};
+ghost use Rattle.std.specs.Fmt.{decimal};
+ghost use Rattle.array_values.specs.Lent.{value_of, IsLent};
+ghost use Rattle.remora_driver.specs.Texts.{line, dims_text, atom_text, array_text, refusal_text, trap_text, stuck_text, still_running_text, usage_text};
+
+use array_values::{Array, ValueRef};
+use core_syntax::{Span, StuckKind, TrapKind};
+use std::alloc::{AllocError, Global};
+use std::fmt::Write;
+
+// Numbers, each behind a space.
+fn put_more_dims(out: &mut String, dims: &[u32]) -> Result<(), AllocError>
+    ensures { OnOk result (string_bytes out.new ≡ string_bytes out.old ++ flat_map (λ d. 32 ∷ decimal d) dims.now) }
+{
+    for dim in dims {
+        write!(out, " {dim}")?;
+    }
+    Ok(())
+}
+
+fn put_dims(out: &mut String, dims: &[u32]) -> Result<(), AllocError>
+    ensures { OnOk result (string_bytes out.new ≡ string_bytes out.old ++ dims_text dims.now) }
+{
+    let [first, others @ ..] = dims else {
+        return Ok(());
+    };
+    write!(out, "{first}")?;
+    put_more_dims(out, others)
+}
+
+// An atom behind a space.
+fn put_atom(out: &mut String, atom: ValueRef<'_>) -> Result<(), AllocError>
+    requires { IsLent atom }
+    ensures { OnOk result (string_bytes out.new ≡ string_bytes out.old ++ 32 ∷ atom_text (value_of atom.entry)) }
+{
+    match atom {
+        ValueRef::Int(integer) => {
+            write!(out, " {integer}")?;
+            Ok(())
+        }
+        ValueRef::Other(_) => out.push_str(" #fn"),
+    }
+}
+
+// Atoms, each behind a space.
+fn put_atoms(out: &mut String, array: &Array) -> Result<(), AllocError>
+    ensures { OnOk result (string_bytes out.new ≡ string_bytes out.old ++ flat_map (λ v. 32 ∷ atom_text v) array.now.atoms) }
+{
+    for place in 0..array.len() {
+        put_atom(out, array.atom_at(place))?;
+    }
+    Ok(())
+}
+
+/// The line of an array.
+pub fn array_line(alloc: Global, array: &Array) -> Result<String, AllocError>
+    ensures { IfOk result (λ text. string_bytes text ≡ line (array_text array.now)) }
+{
+    let mut out = String::new(alloc);
+    out.push_str("(array (")?;
+    put_dims(&mut out, array.dims())?;
+    out.push_str(")")?;
+    put_atoms(&mut out, array)?;
+    out.push_str(")\n")?;
+    Ok(out)
+}
+
+/// The line of a refusal.
+pub fn refusal_line(alloc: Global, number: u8, at: Span) -> Result<String, AllocError>
+    ensures { IfOk result (λ text. string_bytes text ≡ line (refusal_text number at)) }
+{
+    let (row, column) = (at.line, at.col);
+    let mut out = format!(in alloc; "refused {number} {row}:{column}")?;
+    out.push_str("\n")?;
+    Ok(out)
+}
+
+/// The line of a trap.
+pub fn trap_line(alloc: Global, kind: TrapKind) -> Result<String, AllocError>
+    ensures { IfOk result (λ text. string_bytes text ≡ line (trap_text kind)) }
+{
+    match kind {
+        TrapKind::Overflow => String::from_str(alloc, "trap overflow\n"),
+        TrapKind::Zero => String::from_str(alloc, "trap zero\n"),
+        TrapKind::Size => String::from_str(alloc, "trap size\n"),
+    }
+}
+
+/// The line of a machine that is stuck.
+pub fn stuck_line(alloc: Global, kind: StuckKind) -> Result<String, AllocError>
+    ensures { IfOk result (λ text. string_bytes text ≡ line (stuck_text kind)) }
+{
+    match kind {
+        StuckKind::Operand => String::from_str(alloc, "stuck operand\n"),
+        StuckKind::Kind => String::from_str(alloc, "stuck kind\n"),
+        StuckKind::Rank => String::from_str(alloc, "stuck rank\n"),
+        StuckKind::Shape => String::from_str(alloc, "stuck shape\n"),
+    }
+}
+
+/// The line of a run that hadn't ended within its budget.
+pub fn still_running_line(alloc: Global) -> Result<String, AllocError>
+    ensures { IfOk result (λ text. string_bytes text ≡ line still_running_text) }
+{
+    String::from_str(alloc, "still running\n")
+}
+
+/// The line that says how the program is called.
+pub fn usage_line(alloc: Global) -> Result<String, AllocError>
+    ensures { IfOk result (λ text. string_bytes text ≡ line usage_text) }
+{
+    String::from_str(
+        alloc,
+        "usage: remora check FILE, build FILE, run or exec or reduce FILE [--steps N], soak K\n",
+    )
+}
