@@ -124,3 +124,14 @@ pub only_code : (s : List ℕ) (steps : List Instr) (c : List Block) → all_at 
 only_code s steps c e t =
     let g = text_read (length s) c s t (omega arith) in
     ap (λ (is : List Instr). block_of is ∷ []) (steps_same steps g.0.steps (all_at (length s) s) e g.2) ∙ sym g.1
+
+-- a text has one code
+pub one_code_read : (c d : List Block) (s : List ℕ) → CodeText c s → CodeText d s → c ≡ d
+one_code_read c d s p q =
+    let x = text_read (length s) c s p (omega arith) in
+    let y = text_read (length s) d s q (omega arith) in
+    let same : x.0.steps ≡ y.0.steps = one_ok x.0.steps y.0.steps (all_at (length s) s) x.2 y.2 in
+    x.1 ∙ ap (λ steps. block_of steps ∷ []) same ∙ sym y.1
+  where
+    one_ok : (a b : List Instr) (r : Result (List Instr) ℕ) → r ≡ Ok a → r ≡ Ok b → a ≡ b
+    one_ok a b r e f = cc

@@ -5,3 +5,4 @@ pub mod Ends
 pub mod Reading
 pub mod Gives
 pub mod Refusals
+pub mod Laws

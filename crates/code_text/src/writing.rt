@@ -1,6 +1,7 @@
 // Writing the text of a code.
 ghost use Rattle.std.specs.Prelude.{◌≡◌, ◌++◌, ◌∷◌, [], OnOk, IfOk, flat_map};
 ghost use Rattle.std.specs.Fmt.{decimal};
+ghost use Rattle.code_text.specs.Blame.{CodeText};
 ghost use Rattle.code_text.specs.Text.{more_dims_text, dims_text, shape_text, more_shapes_text, literal_text, shapes_text, primitive_text, line_text, block_text, code_text};
 
 use crate::code::{Block, Code, Instr, Literal};
@@ -171,7 +172,8 @@ fn put_code(out: &mut Vec<u8>, alloc: Global, blocks: &[Block]) -> Result<(), Me
 
 /// The one text of the code, by the grammar of code text. It answers `Memory` where there is none.
 pub fn print(alloc: Global, code: &Code) -> Result<Vec<u8>, Memory>
-    ensures { IfOk result (λ text. text.items ≡ code_text code.now) }
+    ensures text { IfOk result (λ text. text.items ≡ code_text code.now) }
+    ensures code { IfOk result (λ text. CodeText code.now text.items) }
 {
     let mut out = Vec::new(alloc);
     put_code(&mut out, alloc, code.blocks())?;
