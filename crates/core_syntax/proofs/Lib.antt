@@ -1,8 +1,23 @@
 mod IndexRows
+pub mod ExprRows
 pub mod LinearLemmas
 pub mod NormLemmas
 pub mod NormValues
 pub mod PartLemmas
 pub mod TreeLemmas
 pub mod TreeRows
+pub mod TyRows
 pub mod WordLemmas
+pub mod Equality
+pub mod NormTyLemmas
+pub mod Closed
+pub mod Composes
+pub mod Unique
+pub mod Valued
+pub mod Renamed
+pub mod Alike
+pub mod Carries
+pub mod Formed
+pub mod Agree
+pub mod Readings
+pub mod OneBlame
