@@ -8,7 +8,7 @@ use Rattle.sexp_reader.specs.Sizes.{leaf_size}
 use Rattle.sexp_reader.specs.Tokens.{lexed}
 use Rattle.sexp_reader.proofs.Weights.{forms_within}
 
-some_size : (f : Form) → 0 < form_size f
+pub some_size : (f : Form) → 0 < form_size f
 some_size (Atom at (leaf.Int z)) = omega arith
 some_size (Atom at (leaf.Bool b)) = omega arith
 some_size (Atom at (leaf.Char c)) = omega arith
