@@ -1,0 +1,17 @@
+pub mod Answers
+pub mod Binders
+pub mod HeaderSizes
+pub mod Headers
+pub mod Held
+pub mod IndexForms
+pub mod Laws
+pub mod Lists
+pub mod Means
+pub mod Reading
+pub mod Scopes
+pub mod Spaces
+pub mod TermForms
+pub mod Tops
+pub mod TypeForms
+pub mod Unboxings
+pub mod Words
