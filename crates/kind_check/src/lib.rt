@@ -1,0 +1,10 @@
+//! The sorts of indices and the kinds of types.
+#![tactic(auto)]
+
+mod kinds;
+mod sorts;
+#[cfg(test)]
+mod tests;
+
+pub use kinds::{KindRefusal, kind_of, kind_within};
+pub use sorts::{SortDiffers, sort_of, sort_within};
