@@ -1,0 +1,14 @@
+pub mod ClipLemmas
+pub mod CountLemmas
+pub mod FateLemmas
+pub mod ListLemmas
+pub mod LoneLemmas
+pub mod MeasureLemmas
+pub mod MoveLemmas
+pub mod NormMoved
+pub mod PartsLemmas
+pub mod RenameLemmas
+pub mod SameLemmas
+pub mod ScopeLemmas
+pub mod ShowLemmas
+pub mod TyCountLemmas
