@@ -14,7 +14,7 @@ use Rattle.machine.specs.declared.running.Outcome.TheVariants as outcome
 use Rattle.machine.specs.Answers.{Answers}
 use Rattle.remora_driver.specs.declared.answer.Answer.{Answer as Given}
 use Rattle.remora_driver.specs.declared.status.Status.TheVariants as status
-use Rattle.remora_driver.specs.Due.{Answer, outcome_answer, IsCodeDue, ends, goes_on, EndsAsMeant, value, overflow, IsTermDue, in_time, too_late, IsAccepted, IsRefused, IsRunDue, run_refused, runs, IsBuildDue, build_refused, builds, IsExecDue, text_too_long, no_code, executes, IsJobDue, no_job, does, refused, front, usage, too_long}
+use Rattle.remora_driver.specs.Due.{Answer, outcome_answer, IsCodeDue, ends, goes_on, EndsAsMeant, value, overflow, IsTermDue, in_time, too_late, IsRefused, IsRunDue, run_refused, runs, IsBuildDue, build_refused, builds, IsExecDue, text_too_long, no_code, executes, IsJobDue, no_job, does, refused, front, usage, too_long}
 use Rattle.remora_driver.specs.Top.{IsTold, IsDueFor, IsAnswer}
 use Rattle.remora_driver.specs.Jobs.{longest, longest_code, IsJob}
 use Rattle.remora_driver.specs.declared.job.Job.{Job}
@@ -22,9 +22,7 @@ use Rattle.remora_driver.specs.declared.job.Job.TheVariants.{Run, Build, Exec}
 use Rattle.remora_driver.specs.Lowering.{code_of}
 use Rattle.remora_driver.specs.Sources.{IsCompiled, seen, told}
 use Rattle.remora_driver.specs.Terms.{Term}
-use Rattle.remora_driver.proofs.Programs.{program_made}
 use Rattle.remora_driver.proofs.Runs.{later, once}
-use Rattle.remora_driver.proofs.Simulates.{ends_as_meant}
 
 -- what a machine that has done nothing answers
 pub answered : {E : Type 0} (r : Result Outcome E) (code own : List Block) (budget steps n : ℕ) → own ≡ code → steps ≡ 0 → IfOk r (λ o. Answers own (max budget steps) n o) → IfOk r (λ o. (k : ℕ) × Answers code budget k o)
@@ -49,9 +47,6 @@ pub end_of : (t : Term) (n : ℕ) (o : table.Outcome) → EndsAsMeant t n o → 
 end_of t n o (value v is k at end) = end
 end_of t n o (overflow none le at end) = end
 
-accepted_meant : (bytes : List ℕ) (t : Term) → IsAccepted bytes t → (n : ℕ) × (o : table.Outcome) × EndsAsMeant t n o
-accepted_meant bytes t is = ends_as_meant t (program_made bytes t is.means) is.shape is.framed
-
 -- what is due for a code is due for its term
 term_due : (t : Term) (budget : ℕ) (a : Answer) → ((n : ℕ) × (o : table.Outcome) × EndsAsMeant t n o) → IsCodeDue (code_of t) budget a → IsTermDue t budget a
 term_due t budget a (n, o, meant) (ends k p le end is) =
@@ -62,7 +57,7 @@ term_due t budget a (n, o, meant) (goes_on going is) =
 
 pub run_due : {E : Type 0} (bytes : List ℕ) (code : List Block) (budget : ℕ) (r : Result Given E) → IsCompiled bytes code → IfOk r (λ a. IsCodeDue code budget (seen a)) → IfOk r (λ a. IsRunDue bytes budget (seen a))
 run_due bytes code budget (Ok a) is h =
-    runs is.term is.accepted (term_due is.term budget (seen a) (accepted_meant bytes is.term is.accepted) (subst (λ (c : List Block). IsCodeDue c budget (seen a)) is.compiled h))
+    runs is.term is.accepted (term_due is.term budget (seen a) is.meant (subst (λ (c : List Block). IsCodeDue c budget (seen a)) is.compiled h))
 run_due bytes code budget (Err e) is h = tt
 
 pub refused_run : {E : Type 0} (bytes : List ℕ) (number : ℕ) (at : Span) (budget : ℕ) (r : Result Given E) → IsRefused bytes number at → IfOk r (λ a. seen a ≡ refused number at) → IfOk r (λ a. IsRunDue bytes budget (seen a))
@@ -72,7 +67,7 @@ refused_run bytes number at budget (Err e) is h = tt
 pub build_due : {E : Type 0} (bytes : List ℕ) (code : List Block) (r : Result Given E) → IsCompiled bytes code → IfOk r (λ a. seen a ≡ record { status = status.Ok; text = code_text code }) → IfOk r (λ a. IsBuildDue bytes (seen a))
 build_due bytes code (Ok a) is h =
     builds is.term is.accepted
-    (record { status = ap (λ (x : Answer). x.status) h; text = subst (λ (c : List Block). CodeText c a.text.items) is.compiled (record { is = is.is; text = ap (λ (x : Answer). x.text) h }); meant = accepted_meant bytes is.term is.accepted })
+    (record { status = ap (λ (x : Answer). x.status) h; text = subst (λ (c : List Block). CodeText c a.text.items) is.compiled (record { is = is.is; text = ap (λ (x : Answer). x.text) h }); meant = is.meant })
 build_due bytes code (Err e) is h = tt
 
 pub refused_build : {E : Type 0} (bytes : List ℕ) (number : ℕ) (at : Span) (r : Result Given E) → IsRefused bytes number at → IfOk r (λ a. seen a ≡ refused number at) → IfOk r (λ a. IsBuildDue bytes (seen a))

@@ -16,7 +16,7 @@ use Rattle.remora_driver.specs.declared.expression.Operator.{Operator}
 use Rattle.remora_driver.specs.declared.expression.Operator.TheVariants.{Add, Subtract, Multiply}
 use Rattle.remora_driver.specs.Arrays.{Integers, IsFilled, values}
 use Rattle.remora_driver.specs.Lowering.{primitive_of}
-use Rattle.remora_driver.specs.Program.{before}
+use Rattle.remora_driver.specs.Options.{before}
 use Rattle.remora_driver.specs.Values.{exact, checked, pointwise}
 
 -- ---- one place

@@ -1,7 +1,13 @@
 -- One answer is due.
 use Rattle.std.proofs.Common.{◌≡◌, sym, ap, ◌∙◌, subst, ℕ, ◌<◌, ◌≤◌, arith, List, length, Option, Some, Result, Ok, Err}
+use Rattle.std.proofs.lemmas.Option.{none-some}
 use Rattle.core_syntax.specs.declared.span.Span.{Span}
-use Rattle.sexp_reader.proofs.Leftmost.{reads_one_way}
+use Rattle.core_syntax.specs.Syntax.{Program}
+use Rattle.sexp_reader.specs.Forms.{Forms}
+use Rattle.sexp_reader.specs.Reads.{Reads, Refusal, read_blame}
+use Rattle.sexp_reader.proofs.Leftmost.{reads_one_way, reads_or_is_refused}
+use Rattle.name_resolve.specs.Means.{NameBlame, program}
+use Rattle.name_resolve.specs.Reading.{Read}
 use Rattle.code_text.specs.declared.code.Block.{Block}
 use Rattle.code_text.specs.Blame.{CodeText}
 use Rattle.code_text.specs.Ends.{Ends, GoesOn, start}
@@ -11,11 +17,12 @@ use Rattle.std.specs.Prelude.{codes}
 use Rattle.std.specs.Str.Parse.{digits_value}
 use Rattle.remora_driver.specs.declared.job.Job.{Job}
 use Rattle.remora_driver.specs.declared.job.Job.TheVariants.{Run, Build, Exec}
-use Rattle.remora_driver.specs.Due.{Answer, refused, outcome_answer, IsCodeDue, ends, goes_on, IsTermDue, in_time, too_late, IsBuilt, IsProgram, IsRefused, too_long, no_program, no_frame, IsAccepted, IsRunDue, run_refused, runs, IsBuildDue, build_refused, builds, IsExecDue, text_too_long, no_code, executes, IsJobDue, IsDue, no_job, does}
+use Rattle.remora_driver.specs.Due.{Answer, refused, outcome_answer, IsCodeDue, ends, goes_on, IsTermDue, in_time, too_late, IsBuilt, IsSource, IsProgram, IsRefused, too_long, unread, unresolved, not_built, no_frame, IsAccepted, IsRunDue, run_refused, runs, IsBuildDue, build_refused, builds, IsExecDue, text_too_long, no_code, executes, IsJobDue, IsDue, no_job, does}
+use Rattle.remora_driver.specs.Fragment.{RunsToday}
 use Rattle.remora_driver.specs.Jobs.{IsJob, plain, limited, plain_job, limited_job}
 use Rattle.remora_driver.specs.Lowering.{code_of}
-use Rattle.remora_driver.specs.Program.{program}
-use Rattle.remora_driver.proofs.MeansLemmas.{program_read}
+use Rattle.remora_driver.specs.Bodies.{body_term}
+use Rattle.remora_driver.proofs.Bodies.{body_read}
 use Rattle.remora_driver.specs.Terms.{Term}
 use Rattle.remora_driver.specs.Values.{shape_of}
 use Rattle.remora_driver.proofs.Dues.{end_of}
@@ -45,11 +52,39 @@ one_term_due t budget a b (too_late n o meant lt going p) (too_late m o' meant' 
 
 -- ---- programs
 
--- a text means one program
-one_program : (bytes : List ℕ) (s t : Term) → IsProgram bytes s → IsProgram bytes t → s ≡ t
-one_program bytes s t p q =
-    let same : Some s ≡ Some t = sym (program_read p.forms s p.means) ∙ ap program (reads_one_way bytes p.forms q.forms p.reads q.reads) ∙ program_read q.forms t q.means in
+program_same : (P Q : Program) → ◌≡◌ {A = Read Program} (Ok P) (Ok Q) → P ≡ Q
+program_same P Q e = cc
+
+-- a text means one program, and one body
+one_source : (bytes : List ℕ) (P Q : Program) → IsSource bytes P → IsSource bytes Q → P ≡ Q
+one_source bytes P Q p q = program_same P Q (sym p.means ∙ ap program (reads_one_way bytes p.forms q.forms p.reads q.reads) ∙ q.means)
+
+one_body : (P Q : Program) (s t : Term) → P ≡ Q → RunsToday P s → RunsToday Q t → s ≡ t
+one_body P Q s t e p q =
+    let same : Some s ≡ Some t = sym (body_read P s p) ∙ ap body_term e ∙ body_read Q t q in
     cc
+
+one_program : (bytes : List ℕ) (s t : Term) → IsProgram bytes s → IsProgram bytes t → s ≡ t
+one_program bytes s t p q = one_body p.program q.program s t (one_source bytes p.program q.program p.means q.means) p.body q.body
+
+-- a text that reads as forms isn't refused by the reader, and one that means a program isn't by the names
+blamed_unread : (bytes : List ℕ) (fs : Forms) (r : Refusal) → read_blame bytes ≡ Some r → Reads bytes fs → ⊥
+blamed_unread bytes fs r blamed reads = absurd (none-some r (sym (reads_or_is_refused bytes fs reads) ∙ blamed))
+
+blamed_unmeant : (bytes : List ℕ) (fs : Forms) (r : Refusal) (P : Program) → Reads bytes fs → NameBlame fs r → IsSource bytes P → ⊥
+blamed_unmeant bytes fs r P reads blamed is =
+    let same : ◌≡◌ {A = Read Program} (Err r) (Ok P) = sym blamed ∙ ap program (reads_one_way bytes fs is.forms reads is.reads) ∙ is.means in
+    absurd (cc)
+
+-- the program runs today, or doesn't
+runs_or_not : (bytes : List ℕ) (P : Program) (t : Term) → IsSource bytes P → ((s : Term) → ¬ (RunsToday P s)) → IsProgram bytes t → ⊥
+runs_or_not bytes P t is none means = none t (subst (λ (Q : Program). RunsToday Q t) (one_source bytes means.program P means.means is) means.body)
+
+pair_same : (m n : ℕ) (p q : Span) → ◌≡◌ {A = Option Refusal} (Some (m, p)) (Some (n, q)) → (m ≡ n) × (p ≡ q)
+pair_same m n p q e = let h : ◌≡◌ {A = Refusal} (m, p) (n, q) = cc in (ap (λ (r : Refusal). r.0) h, ap (λ (r : Refusal). r.1) h)
+
+blame_same : (m n : ℕ) (p q : Span) → ◌≡◌ {A = Read Program} (Err (m, p)) (Err (n, q)) → (m ≡ n) × (p ≡ q)
+blame_same m n p q e = let h : ◌≡◌ {A = Refusal} (m, p) (n, q) = cc in (ap (λ (r : Refusal). r.0) h, ap (λ (r : Refusal). r.1) h)
 
 err_same : (p q : Span) → ◌≡◌ {A = Result (List ℕ) Span} (Err p) (Err q) → p ≡ q
 err_same p q e = cc
@@ -62,20 +97,37 @@ refused_same m n p q e h = ap (λ (k : ℕ). refused k p) e ∙ ap (refused n) h
 
 one_refusal : (bytes : List ℕ) (m n : ℕ) (p q : Span) → IsRefused bytes m p → IsRefused bytes n q → refused m p ≡ refused n q
 one_refusal bytes m n p q (too_long l e h) (too_long l' e' h') = refused_same m n p q (e ∙ sym e') (h ∙ sym h')
-one_refusal bytes m n p q (too_long l e h) (no_program s none e' h') = absurd (omega (arith, l, s))
-one_refusal bytes m n p q (too_long l e h) (no_frame t s means h' e') = absurd (omega (arith, l, s))
-one_refusal bytes m n p q (no_program s none e h) (too_long l e' h') = absurd (omega (arith, l, s))
-one_refusal bytes m n p q (no_program s none e h) (no_program s' none' e' h') = refused_same m n p q (e ∙ sym e') (h ∙ sym h')
-one_refusal bytes m n p q (no_program s none e h) (no_frame t s' means h' e') = absurd (none t means)
-one_refusal bytes m n p q (no_frame t s means h e) (too_long l e' h') = absurd (omega (arith, l, s))
-one_refusal bytes m n p q (no_frame t s means h e) (no_program s' none e' h') = absurd (none t means)
-one_refusal bytes m n p q (no_frame t s means h e) (no_frame u s' means' h' e') =
-    refused_same m n p q (e ∙ sym e') (err_same p q (sym h ∙ ap shape_of (one_program bytes t u means means') ∙ h'))
+one_refusal bytes m n p q (too_long l e h) (unread s' b') = absurd (omega (arith, l, s'))
+one_refusal bytes m n p q (too_long l e h) (unresolved gs s' reads' b') = absurd (omega (arith, l, s'))
+one_refusal bytes m n p q (too_long l e h) (not_built Q s' is' none' e' h') = absurd (omega (arith, l, s'))
+one_refusal bytes m n p q (too_long l e h) (no_frame u s' means' h' e') = absurd (omega (arith, l, s'))
+one_refusal bytes m n p q (unread s b) (too_long l' e' h') = absurd (omega (arith, l', s))
+one_refusal bytes m n p q (unread s b) (unread s' b') = let same = pair_same m n p q (sym b ∙ b') in refused_same m n p q same.0 same.1
+one_refusal bytes m n p q (unread s b) (unresolved gs s' reads' b') = absurd (blamed_unread bytes gs (m, p) b reads')
+one_refusal bytes m n p q (unread s b) (not_built Q s' is' none' e' h') = absurd (blamed_unread bytes is'.forms (m, p) b is'.reads)
+one_refusal bytes m n p q (unread s b) (no_frame u s' means' h' e') = absurd (blamed_unread bytes means'.means.forms (m, p) b means'.means.reads)
+one_refusal bytes m n p q (unresolved fs s reads b) (too_long l' e' h') = absurd (omega (arith, l', s))
+one_refusal bytes m n p q (unresolved fs s reads b) (unread s' b') = absurd (blamed_unread bytes fs (n, q) b' reads)
+one_refusal bytes m n p q (unresolved fs s reads b) (unresolved gs s' reads' b') = let same = blame_same m n p q (sym b ∙ ap program (reads_one_way bytes fs gs reads reads') ∙ b') in refused_same m n p q same.0 same.1
+one_refusal bytes m n p q (unresolved fs s reads b) (not_built Q s' is' none' e' h') = absurd (blamed_unmeant bytes fs (m, p) Q reads b is')
+one_refusal bytes m n p q (unresolved fs s reads b) (no_frame u s' means' h' e') = absurd (blamed_unmeant bytes fs (m, p) means'.program reads b means'.means)
+one_refusal bytes m n p q (not_built P s is none e h) (too_long l' e' h') = absurd (omega (arith, l', s))
+one_refusal bytes m n p q (not_built P s is none e h) (unread s' b') = absurd (blamed_unread bytes is.forms (n, q) b' is.reads)
+one_refusal bytes m n p q (not_built P s is none e h) (unresolved gs s' reads' b') = absurd (blamed_unmeant bytes gs (n, q) P reads' b' is)
+one_refusal bytes m n p q (not_built P s is none e h) (not_built Q s' is' none' e' h') = refused_same m n p q (e ∙ sym e') (h ∙ sym h')
+one_refusal bytes m n p q (not_built P s is none e h) (no_frame u s' means' h' e') = absurd (runs_or_not bytes P u is none means')
+one_refusal bytes m n p q (no_frame t s means h e) (too_long l' e' h') = absurd (omega (arith, l', s))
+one_refusal bytes m n p q (no_frame t s means h e) (unread s' b') = absurd (blamed_unread bytes means.means.forms (n, q) b' means.means.reads)
+one_refusal bytes m n p q (no_frame t s means h e) (unresolved gs s' reads' b') = absurd (blamed_unmeant bytes gs (n, q) means.program reads' b' means.means)
+one_refusal bytes m n p q (no_frame t s means h e) (not_built Q s' is' none' e' h') = absurd (runs_or_not bytes Q t is' none' means)
+one_refusal bytes m n p q (no_frame t s means h e) (no_frame u s' means' h' e') = refused_same m n p q (e ∙ sym e') (err_same p q (sym h ∙ ap shape_of (one_program bytes t u means means') ∙ h'))
 
 -- what is refused isn't accepted
 refused_or_not : (bytes : List ℕ) (n : ℕ) (at : Span) (t : Term) → IsRefused bytes n at → IsAccepted bytes t → ⊥
 refused_or_not bytes n at t (too_long l e h) is = absurd (omega (arith, l, is.short))
-refused_or_not bytes n at t (no_program s none e h) is = none t is.means
+refused_or_not bytes n at t (unread s b) is = blamed_unread bytes is.means.means.forms (n, at) b is.means.means.reads
+refused_or_not bytes n at t (unresolved fs s reads b) is = blamed_unmeant bytes fs (n, at) is.means.program reads b is.means.means
+refused_or_not bytes n at t (not_built P s source none e h) is = runs_or_not bytes P t source none is.means
 refused_or_not bytes n at t (no_frame u s means h e) is = err_ok at is.shape (sym h ∙ ap shape_of (one_program bytes u t means is.means) ∙ is.framed)
 
 one_run : (bytes : List ℕ) (budget : ℕ) (a b : Answer) → IsRunDue bytes budget a → IsRunDue bytes budget b → a ≡ b

@@ -19,7 +19,7 @@ use Rattle.remora_driver.specs.declared.expression.Operator.{Operator}
 use Rattle.remora_driver.specs.Arrays.{Integers, IsFilled, values}
 use Rattle.remora_driver.specs.Due.{EndsAsMeant, value, overflow}
 use Rattle.remora_driver.specs.Lowering.{primitive_of, instructions, frame_cells, steps_of}
-use Rattle.remora_driver.specs.Program.{both}
+use Rattle.remora_driver.specs.Options.{both}
 use Rattle.remora_driver.specs.Terms.{Term, Literal, Applied}
 use Rattle.remora_driver.specs.Values.{greatest, exact, checked, frame_at, frame_of, shape_of, pointwise, in_frame, applied_in, lifted, value_of}
 use Rattle.remora_driver.proofs.Greatest.{greatest_of_call, IsFrame, is_frame}

@@ -4,21 +4,23 @@ use Rattle.core_syntax.specs.declared.span.Span.{Span}
 use Rattle.core_syntax.specs.declared.errors.StuckKind.{StuckKind}
 use Rattle.core_syntax.specs.declared.errors.TrapKind.{TrapKind}
 use Rattle.core_syntax.specs.declared.errors.TrapKind.TheVariants.{Overflow}
+use Rattle.core_syntax.specs.Syntax.{Program}
 use Rattle.array_values.specs.declared.array.Array.{Array}
 use Rattle.code_text.specs.declared.code.Block.{Block}
 use Rattle.code_text.specs.Blame.{CodeText}
 use Rattle.code_text.specs.Ends.{Ends, GoesOn}
 use Rattle.code_text.specs.Machine.{Outcome, Done, Trap, Stuck}
 use Rattle.sexp_reader.specs.Forms.{Forms}
-use Rattle.sexp_reader.specs.Reads.{Reads}
+use Rattle.sexp_reader.specs.Reads.{Reads, read_blame}
+use Rattle.name_resolve.specs.Means.{Means, NameBlame}
 use Rattle.remora_driver.specs.declared.job.Job.{Job}
 use Rattle.remora_driver.specs.declared.job.Job.TheVariants.{Run, Build, Exec}
 use Rattle.remora_driver.specs.declared.status.Status.{Status}
 use Rattle.remora_driver.specs.declared.status.Status.TheVariants as status
 use Rattle.remora_driver.specs.Arrays.{Integers, values}
+use Rattle.remora_driver.specs.Fragment.{RunsToday}
 use Rattle.remora_driver.specs.Jobs.{longest_source, longest_code, IsJob, IsCall}
 use Rattle.remora_driver.specs.Lowering.{code_of, steps_of}
-use Rattle.remora_driver.specs.Meaning.{MeansProgram}
 use Rattle.remora_driver.specs.Terms.{Term}
 use Rattle.remora_driver.specs.Texts.{line, array_text, refusal_text, trap_text, stuck_text, still_running_text, usage_text}
 use Rattle.remora_driver.specs.Values.{shape_of, value_of}
@@ -88,16 +90,27 @@ pub record IsBuilt (t : Term) (a : Answer) : Type 0 where
 
 -- ---- programs
 
--- the text means a program with this body
-pub record IsProgram (bytes : List ℕ) (t : Term) : Type 0 where
+-- the text means this program
+pub record IsSource (bytes : List ℕ) (P : Program) : Type 0 where
   pub forms : Forms
   pub reads : Reads bytes forms
-  pub means : MeansProgram forms t
+  pub means : Means forms P
+
+-- the text means a program that runs today, with this body
+pub record IsProgram (bytes : List ℕ) (t : Term) : Type 0 where
+  pub program : Program
+  pub means : IsSource bytes program
+  pub body : RunsToday program t
 
 -- why a program source is refused, in this order
 pub data IsRefused (bytes : List ℕ) (number : ℕ) (at : Span) : Type 0 where
   too_long : longest_source < length bytes → number ≡ 31 → at ≡ front → IsRefused bytes number at
-  no_program : length bytes ≤ longest_source → ((t : Term) → ¬ (IsProgram bytes t)) → number ≡ 90 → at ≡ front → IsRefused bytes number at
+  -- 1 to 6: the text reads as no forms
+  unread : length bytes ≤ longest_source → read_blame bytes ≡ Some (number, at) → IsRefused bytes number at
+  -- 7 to 12: the forms that it reads as mean no program
+  unresolved : (fs : Forms) → length bytes ≤ longest_source → Reads bytes fs → NameBlame fs (number, at) → IsRefused bytes number at
+  -- the program that it means doesn't run today
+  not_built : (P : Program) → length bytes ≤ longest_source → IsSource bytes P → ((t : Term) → ¬ (RunsToday P t)) → number ≡ 90 → at ≡ front → IsRefused bytes number at
   no_frame : (t : Term) → length bytes ≤ longest_source → IsProgram bytes t → shape_of t ≡ Err at → number ≡ 22 → IsRefused bytes number at
 
 -- the text means a program with this body, whose applications have their frames

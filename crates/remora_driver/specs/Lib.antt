@@ -1,11 +1,12 @@
 pub mod Arrays
+pub mod Bodies
 pub mod Codes
 pub mod Due
+pub mod Fragment
 pub mod Jobs
 pub mod Laws
 pub mod Lowering
-pub mod Meaning
-pub mod Program
+pub mod Options
 pub mod Results
 pub mod Sources
 pub mod Terms

@@ -6,7 +6,7 @@ use Rattle.code_text.specs.Machine.{in_range}
 use Rattle.remora_driver.specs.declared.expression.Operator.{Operator}
 use Rattle.remora_driver.specs.declared.expression.Operator.TheVariants.{Add, Subtract, Multiply}
 use Rattle.remora_driver.specs.Arrays.{Integers}
-use Rattle.remora_driver.specs.Program.{both, before}
+use Rattle.remora_driver.specs.Options.{both, before}
 use Rattle.remora_driver.specs.Terms.{Term, Literal, Applied}
 
 -- the greatest of two shapes, the one that begins with the other, if there is one

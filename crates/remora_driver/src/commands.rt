@@ -8,7 +8,8 @@ ghost use Rattle.remora_driver.specs.Jobs.{longest, longest_source, longest_code
 ghost use Rattle.remora_driver.specs.Sources.{seen, told};
 
 use crate::answer::{Answer, FRONT, NOT_BUILT, refusal, shown_array, still_running, stuck, trap};
-use crate::compiling::{CompileError, compile};
+use crate::compiling::compile;
+use crate::errors::CompileError;
 use crate::job::Job;
 use crate::status::Status;
 use code_text::{Code, CodeRefusal, parse, print};

@@ -1,9 +1,22 @@
+use core_syntax::Span;
 use std::alloc::{AllocError, AllocFailed};
+use thiserror::Error;
 
-/// Why a step of the work has no result: none is defined, or there was no memory.
-#[derive(Clone, Copy, Debug, PartialEq, Eq)]
+/// Why a program source has no code: it is refused with this number at this place, or there was no memory.
+#[derive(Clone, Copy, Debug, PartialEq, Eq, Error)]
+pub enum CompileError {
+    #[error("refused {number} {}:{}", .span.line, .span.col)]
+    Refused { number: u8, span: Span },
+    #[error("no memory")]
+    Memory,
+}
+
+/// Why a part of a program has no term: it doesn't run today, or there was no memory.
+#[derive(Clone, Copy, Debug, PartialEq, Eq, Error)]
 pub enum NoResult {
+    #[error("not built yet")]
     Undefined,
+    #[error("no memory")]
     Memory,
 }
 

@@ -27,13 +27,13 @@ fn calls(
     Ok(())
 }
 
-fn refused(number: u8, from: u32, to: u32, col: u32) -> Status {
+fn refused(number: u8, (from, to): (u32, u32), (line, col): (u32, u32)) -> Status {
     Status::Refused {
         number,
         span: Span {
             from,
             to,
-            line: 1,
+            line,
             col,
         },
     }
@@ -45,7 +45,6 @@ const ADD: &[u8] = b"(main () (+ (array (2 3) 1 2 3 4 5 6) (array (2) 10 20)))";
 fn runs_programs(rt: HostRuntime) -> Result<(), Fail> {
     let alloc = rt.alloc();
     let run = ["run", "f"];
-    let none = refused(90, 0, 0, 1);
     let overflow = Status::Trap(TrapKind::Overflow);
     let cases = [
         (
@@ -65,30 +64,139 @@ fn runs_programs(rt: HostRuntime) -> Result<(), Fail> {
             b"(array () -6)\n",
         ),
         (
-            b"(main () (+ (array (2) 1 2) (array (3) 1 2 3)))",
-            refused(22, 9, 46, 10),
-            b"refused 22 1:10\n",
-        ),
-        (
             b"(main () (+ 9223372036854775807 1))",
             overflow,
             b"trap overflow\n",
         ),
-        (b"(main () #t)", none, b"refused 90 1:1\n"),
-        (b"(main () (+ 1 2)", none, b"refused 90 1:1\n"),
+        (
+            b"(main () (array (1 2) 7 8))",
+            Status::Ok,
+            b"(array (1 2) 7 8)\n",
+        ),
     ];
     for (program, status, text) in cases {
         calls(&rt, alloc, &run, program, status, text)?;
     }
-    let spaces = vec![in alloc; 32; 1048577]?;
+    Ok(())
+}
+
+// A source that is refused with this number at this place.
+fn refuses(
+    rt: &impl Abort,
+    alloc: Global,
+    program: &[u8],
+    number: u8,
+    bytes: (u32, u32),
+    place: (u32, u32),
+) -> Result<(), Fail> {
+    let line = format!(in alloc; "refused {number} {}:{}\n", place.0, place.1)?;
+    let status = refused(number, bytes, place);
+    calls(rt, alloc, &["run", "f"], program, status, line.as_bytes())?;
+    calls(rt, alloc, &["build", "f"], program, status, line.as_bytes())
+}
+
+#[test]
+fn refuses_sources(rt: HostRuntime) -> Result<(), Fail> {
+    let alloc = rt.alloc();
+    let cases = [
+        (b"\xff".as_slice(), 1, (0, 1), (1, 1)),
+        (b"(main () #tx)", 2, (9, 10), (1, 10)),
+        (b"(main () (+ 1 2)", 3, (0, 1), (1, 1)),
+        (b"(main () 1))", 4, (11, 12), (1, 12)),
+        (b"(main () 9223372036854775808)", 6, (9, 10), (1, 10)),
+        (b"(main () (fn 1 2))", 7, (9, 17), (1, 10)),
+        (b"(main () x)", 8, (9, 10), (1, 10)),
+        (
+            b"(main () (unbox (d x ((i-app (t-app ravel Int) (shape)) 5))\n (A Int (shape d)) x))",
+            8,
+            (75, 76),
+            (2, 16),
+        ),
+        (
+            b"(define f (-> (Int) Int) (fn ((x Int)) Int (f x)))\n(main () (f 1))",
+            8,
+            (44, 45),
+            (1, 45),
+        ),
+        (b"(main ((x Int) (x Int)) 1)", 9, (16, 17), (1, 17)),
+        (b"(main () (array (2) 1))", 10, (9, 22), (1, 10)),
+        (b"(main () (array (4294967296) 1))", 11, (17, 27), (1, 18)),
+        (b"(main () (div 1 y))", 8, (16, 17), (1, 17)),
+        (
+            b"(main () (+ (array (2) 1 2) (array (3) 1 2 3)))",
+            22,
+            (9, 46),
+            (1, 10),
+        ),
+        (
+            b"(main () (+ 1 (- (array (2) 1 2) (array (3) 1 2 3))))",
+            22,
+            (14, 51),
+            (1, 15),
+        ),
+    ];
+    for (program, number, bytes, place) in cases {
+        refuses(&rt, alloc, program, number, bytes, place)?;
+    }
+    Ok(())
+}
+
+#[test]
+fn refuses_what_is_not_built(rt: HostRuntime) -> Result<(), Fail> {
+    let alloc = rt.alloc();
+    let cases = [
+        b"(main () #t)".as_slice(),
+        b"(main () +)",
+        b"(main () \"ab\")",
+        b"(main () (array (0) Int))",
+        b"(main () (frame (2) 1 2))",
+        b"(main () (+ 1))",
+        b"(main () (+ 1 2 3))",
+        b"(main () (div 4 2))",
+        b"(main () ((array (1) +) 1 2))",
+        b"(main () (1 2 3))",
+        b"(main () (+ (array (2) 1 2) (+ (array (3) 1 2 3) #t)))",
+        b"(main ((x Int)) 1)",
+        b"(define x Int 1) (main () 1)",
+    ];
+    for program in cases {
+        refuses(&rt, alloc, program, 90, (0, 0), (1, 1))?;
+    }
+    Ok(())
+}
+
+// A program with so many applications inside one another.
+fn nested(alloc: Global, depth: usize) -> Result<Vec<u8>, Fail> {
+    let mut program = b"(main () ".to_vec(alloc)?;
+    for _ in 0..depth {
+        program.extend_from_slice(b"(+ 0 ")?;
+    }
+    program.extend_from_slice(b"1")?;
+    for _ in 0..depth {
+        program.extend_from_slice(b")")?;
+    }
+    program.extend_from_slice(b")")?;
+    Ok(program)
+}
+
+#[test]
+fn keeps_the_limits_of_sources(rt: HostRuntime) -> Result<(), Fail> {
+    let alloc = rt.alloc();
+    let deepest = nested(alloc, 255)?;
     calls(
         &rt,
         alloc,
-        &run,
-        spaces.as_slice(),
-        refused(31, 0, 0, 1),
-        b"refused 31 1:1\n",
-    )
+        &["run", "f"],
+        deepest.as_slice(),
+        Status::Ok,
+        b"(array () 1)\n",
+    )?;
+    let deeper = nested(alloc, 256)?;
+    refuses(&rt, alloc, deeper.as_slice(), 5, (1284, 1285), (1, 1285))?;
+    let mut spaces = vec![in alloc; 32; 1048576]?;
+    refuses(&rt, alloc, spaces.as_slice(), 7, (0, 0), (1, 1))?;
+    spaces.push(32)?;
+    refuses(&rt, alloc, spaces.as_slice(), 31, (0, 0), (1, 1))
 }
 
 // The code of the program above.
@@ -144,7 +252,7 @@ fn builds_and_runs_code(rt: HostRuntime) -> Result<(), Fail> {
         ),
         (
             b"remora-code 1\nparams 0\nblocks 1\nblock 1\nprim +",
-            refused(90, 0, 0, 1),
+            refused(90, (0, 0), (1, 1)),
             b"refused 90 1:1\n",
         ),
     ];

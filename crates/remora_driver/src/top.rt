@@ -15,11 +15,14 @@ use crate::status::Status;
 use core_syntax::Memory;
 use rem_base::{ReadRefusal, Sink, Source, read_all, write_all};
 use std::alloc::Global;
+use thiserror::Error;
 
 /// Why there is no answer to write.
-#[derive(Clone, Copy, Debug, PartialEq, Eq)]
+#[derive(Clone, Copy, Debug, PartialEq, Eq, Error)]
 pub enum Halt {
+    #[error("the source failed")]
     ReadFault,
+    #[error("no memory")]
     Memory,
 }
 

@@ -4,7 +4,7 @@ use Rattle.code_text.specs.Text.{IsInstr}
 use Rattle.remora_driver.specs.Lowering.{instructions}
 use Rattle.remora_driver.specs.Terms.{term_of}
 use Rattle.remora_driver.proofs.Lowers.{joined, each_joined}
-use Rattle.remora_driver.proofs.ReadTerms.{is_apply}
+use Rattle.remora_driver.proofs.Trees.{is_apply}
 use Rattle.remora_driver.proofs.lowering.+put_expression.Goals as goal
 
 pub returns-in_ok-push-in-Apply-2-clause-instructions : goal.returns-in_ok-push-in-Apply-2-clause-instructions

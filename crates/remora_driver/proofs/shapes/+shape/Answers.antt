@@ -3,7 +3,7 @@ use Rattle.std.specs.Prelude.{Result}
 use Rattle.core_syntax.specs.declared.span.Span.{Span}
 use Rattle.remora_driver.specs.Terms.{term_of}
 use Rattle.remora_driver.specs.Values.{shape_of, frame_of, frame_at}
-use Rattle.remora_driver.proofs.ReadTerms.{is_apply}
+use Rattle.remora_driver.proofs.Trees.{is_apply}
 use Rattle.remora_driver.proofs.shapes.+shape.Goals as goal
 
 -- the shape of an application, from those of its arguments

@@ -1,7 +1,7 @@
 use Rattle.std.proofs.Common.{◌∷◌, string_bytes}
 use Rattle.array_values.specs.Lent.{value_of}
 use Rattle.remora_driver.specs.Texts.{atom_text}
-use Rattle.remora_driver.proofs.Literals.{one_more_text}
+use Rattle.remora_driver.proofs.ItemTexts.{one_more_text}
 use Rattle.remora_driver.proofs.texts.put_atoms.Goals as goal
 
 pub loop-place-preserved : goal.loop-place-preserved

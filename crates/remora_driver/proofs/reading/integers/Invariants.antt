@@ -1,8 +1,0 @@
-use Rattle.std.proofs.Common.{◌≡◌, drop}
-use Rattle.sexp_reader.specs.Forms.{forms_of}
-use Rattle.remora_driver.specs.Program.{integers}
-use Rattle.remora_driver.proofs.Forms.{onto}
-use Rattle.remora_driver.proofs.reading.integers.Given as goal
-
-abbrev pub invariant-loop-form : goal.invariant-loop-form
-invariant-loop-form l = integers (forms_of l.forms) ≡ onto l.atoms.items (integers (forms_of (drop l.form-index l.forms)))
