@@ -3,12 +3,8 @@
 # grows with the frame by more than a fifth.
 #
 # usage: bench/machine.sh [RUNS]
-set -eu
-runs=${1:-11}
 top=$(dirname -- "$(dirname -- "$(readlink -f -- "$0")")")
-remora=$top/remora
-work=$(mktemp -d)
-trap 'rm -rf "$work"' EXIT
+. "$top/bench/timing.sh"
 
 # The number of additions, one after another, over each frame.
 additions=64
@@ -31,23 +27,6 @@ steps_of() {
     echo $((additions * ($1 + 4) + 2))
 }
 
-# The least time of $1 runs of a command, in nanoseconds.
-least() {
-    best=
-    i=0
-    count=$1
-    shift
-    while [ "$i" -lt "$count" ]; do
-        begin=$(date +%s%N)
-        "$@" >"$work/out" || true
-        end=$(date +%s%N)
-        took=$((end - begin))
-        if [ -z "$best" ] || [ "$took" -lt "$best" ]; then best=$took; fi
-        i=$((i + 1))
-    done
-    echo "$best"
-}
-
 # Nanoseconds a step over a frame of $1 cells, without those of reading the code.
 cost() {
     write_code "$1" >"$work/code"
@@ -62,7 +41,6 @@ cost() {
 }
 
 "$remora" run "$top/examples/add.remora" >/dev/null
-program=$top/crates/remora_cli/out/remora_cli
 
 small=$(cost 100000)
 large=$(cost 200000)

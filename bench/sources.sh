@@ -3,12 +3,8 @@
 # part of the gate, and fails where the time more than doubles by a tenth.
 #
 # usage: bench/sources.sh [RUNS]
-set -eu
-runs=${1:-7}
 top=$(dirname -- "$(dirname -- "$(readlink -f -- "$0")")")
-remora=$top/remora
-work=$(mktemp -d)
-trap 'rm -rf "$work"' EXIT
+. "$top/bench/timing.sh"
 
 # A source of at most $2 bytes of the kind $1, and a Lua text of as many bytes and the like shape.
 write_source() {
@@ -40,7 +36,7 @@ write_source() {
 write_lua() {
     awk -v kind="$1" -v limit="$2" 'BEGIN {
         if (kind == "deep") {
-            for (i = 0; i < 150; i++) { front = front "(1+"; back = back ")" }
+            for (i = 0; i < 60; i++) { front = front "(1+"; back = back ")" }
             part = front "1" back
             for (n = 0; n + length(part) + 4 < limit; n += length(part) + 4) printf "x = %s\n", part
         } else if (kind == "wide") {
@@ -57,35 +53,19 @@ write_lua() {
     }'
 }
 
-# The least time of $runs runs of a command, in nanoseconds.
-least() {
-    best=
-    i=0
-    while [ "$i" -lt "$runs" ]; do
-        begin=$(date +%s%N)
-        "$@" >"$work/out" 2>&1 || true
-        end=$(date +%s%N)
-        took=$((end - begin))
-        if [ -z "$best" ] || [ "$took" -lt "$best" ]; then best=$took; fi
-        i=$((i + 1))
-    done
-    echo "$best"
-}
-
 "$remora" run "$top/examples/add.remora" >/dev/null
-program=$top/crates/remora_cli/out/remora_cli
 failed=0
 for kind in deep wide array definitions; do
     write_source "$kind" 524288 >"$work/half"
     write_source "$kind" 1048576 >"$work/whole"
-    half=$(least "$program" run "$work/half")
-    whole=$(least "$program" run "$work/whole")
+    half=$(least "$runs" "$program" run "$work/half")
+    whole=$(least "$runs" "$program" run "$work/whole")
     answer=$(head -c 40 "$work/out" | head -1)
     printf '%-12s %6d and %6d microseconds, ratio %s' "$kind" $((half / 1000)) $((whole / 1000)) \
         "$(awk -v a="$half" -v b="$whole" 'BEGIN { printf "%.2f", b / a }')"
     if command -v luac5.4 >/dev/null; then
         write_lua "$kind" 1048576 >"$work/text.lua"
-        lua=$(least luac5.4 -p "$work/text.lua")
+        lua=$(least "$runs" luac5.4 -p "$work/text.lua")
         printf ', beside luac5.4 -p %s' "$(awk -v a="$lua" -v b="$whole" 'BEGIN { printf "%.2f", b / a }')"
     fi
     printf '; answers %s\n' "$answer"
