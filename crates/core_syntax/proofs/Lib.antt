@@ -21,3 +21,4 @@ pub mod Formed
 pub mod Agree
 pub mod Readings
 pub mod OneBlame
+pub mod NotesAlike

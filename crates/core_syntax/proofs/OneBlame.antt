@@ -208,7 +208,7 @@ inputs_agree (t ∷ ts) =
 
 -- equal types are printable alike
 mutual
-  printable_same : (t u : Ty) → Same t u → is_printable t ≡ is_printable u
+  pub printable_same : (t u : Ty) → Same t u → is_printable t ≡ is_printable u
   printable_same (Arr at t i) (Arr at' u j) h = printable_atom_same t u h.0
   printable_same (Arr at t i) _ h = absurd h
   printable_same _ (Arr at u j) h = absurd h

@@ -1,0 +1,8 @@
+use Rattle.std.proofs.Common.{ap, ◌∙◌}
+use Rattle.core_syntax.specs.Refine.{indices_of}
+use Rattle.core_syntax.specs.Syntax.{Join, no_span}
+use Rattle.core_syntax.proofs.TreeRows.{form_of_join}
+use Rattle.prim_table.proofs.parts.joined.Goals as goal
+
+pub returns : goal.returns
+returns c = form_of_join no_span c.in_ok-parts.parts ∙ ap (λ is. Join no_span (indices_of is)) c.in_ok-parts.ensures
