@@ -2,6 +2,7 @@
 #![tactic(auto)]
 
 mod counting;
+mod inner;
 mod instantiate;
 mod measuring;
 mod moving;
@@ -16,6 +17,7 @@ mod tables;
 mod tests;
 mod tree;
 
+pub use inner::same_part;
 pub use instantiate::{instantiate_indices, instantiate_types};
 pub use measuring::{NormRefusal, measure};
 pub use norm_type::{NormType, moved, normal, same};
