@@ -1,0 +1,15 @@
+use Rattle.core_syntax.specs.Lists.{each}
+use Rattle.core_syntax.specs.NormTypes.{norm_ty, measure_ty}
+use Rattle.core_syntax.specs.Refine.{index_of, ty_of}
+use Rattle.core_syntax.specs.Subst.{kept, put_all, with_indices}
+use Rattle.type_equal.specs.Put.{index_tree}
+use Rattle.type_check.specs.Framed.{framed}
+use Rattle.type_check.proofs.PutArrays.{array_put}
+use Rattle.type_check.proofs.FramedLemmas.{instance_refused}
+use Rattle.type_check.proofs.applied.with_given_indices.Goals as goal
+
+pub returns-in-Err : goal.returns-in-Err
+returns-in-Err c =
+    let instance = with_indices (each index_tree c.args.given.now) (ty_of c.args.body.now) in
+    c.measured.ensures (measure_ty (framed (index_of c.args.frame.now) (norm_ty instance)))
+    (instance_refused (index_of c.args.frame.now) instance c.in-Err.refusal (array_put (put_all (each index_tree c.args.given.now)) kept (ty_of c.args.body.now) c.requires.array) c.requires.frame c.in-Err.ensures.refused)

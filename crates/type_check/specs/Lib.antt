@@ -1,0 +1,15 @@
+pub mod Answers
+pub mod Boxes
+pub mod Contexts
+pub mod Forms
+pub mod Found
+pub mod FoundParts
+pub mod Framed
+pub mod Functions
+pub mod Laws
+pub mod Numbers
+pub mod ProgramAnswers
+pub mod ProgramState
+pub mod State
+pub mod Synth
+pub mod Written
