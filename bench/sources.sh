@@ -56,19 +56,6 @@ write_lua() {
 "$remora" run "$top/examples/add.remora" >/dev/null
 failed=0
 for kind in deep wide array definitions; do
-    write_source "$kind" 524288 >"$work/half"
-    write_source "$kind" 1048576 >"$work/whole"
-    half=$(least "$runs" "$program" run "$work/half")
-    whole=$(least "$runs" "$program" run "$work/whole")
-    answer=$(head -c 40 "$work/out" | head -1)
-    printf '%-12s %6d and %6d microseconds, ratio %s' "$kind" $((half / 1000)) $((whole / 1000)) \
-        "$(awk -v a="$half" -v b="$whole" 'BEGIN { printf "%.2f", b / a }')"
-    if command -v luac5.4 >/dev/null; then
-        write_lua "$kind" 1048576 >"$work/text.lua"
-        lua=$(least "$runs" luac5.4 -p "$work/text.lua")
-        printf ', beside luac5.4 -p %s' "$(awk -v a="$lua" -v b="$whole" 'BEGIN { printf "%.2f", b / a }')"
-    fi
-    printf '; answers %s\n' "$answer"
-    awk -v a="$half" -v b="$whole" 'BEGIN { exit b > a * 2.2 }' || failed=1
+    doubling run "$kind" || failed=1
 done
 exit $failed

@@ -22,3 +22,23 @@ least() {
     done
     echo "$best"
 }
+
+# Times the command $1 on a source of half a mebibyte and on a whole one of the kind $2, which `write_source` writes, and
+# luac5.4, where it is there, on as long a Lua text of the like shape, which `write_lua` writes. It fails where the time
+# more than doubles by a tenth.
+doubling() {
+    write_source "$2" 524288 >"$work/half"
+    write_source "$2" 1048576 >"$work/whole"
+    half=$(least "$runs" "$program" "$1" "$work/half")
+    whole=$(least "$runs" "$program" "$1" "$work/whole")
+    answer=$(head -c 40 "$work/out" | head -1)
+    printf '%-12s %6d and %6d microseconds, ratio %s' "$2" $((half / 1000)) $((whole / 1000)) \
+        "$(awk -v a="$half" -v b="$whole" 'BEGIN { printf "%.2f", b / a }')"
+    if command -v luac5.4 >/dev/null; then
+        write_lua "$2" 1048576 >"$work/text.lua"
+        lua=$(least "$runs" luac5.4 -p "$work/text.lua")
+        printf ', beside luac5.4 -p %s' "$(awk -v a="$lua" -v b="$whole" 'BEGIN { printf "%.2f", b / a }')"
+    fi
+    printf '; answers %s\n' "$answer"
+    awk -v a="$half" -v b="$whole" 'BEGIN { exit b > a * 2.2 }'
+}

@@ -3,6 +3,8 @@ use Rattle.std.proofs.Common.{◌≡◌, refl, sym, ap, ◌∙◌, subst, ℕ, �
 use Rattle.std.specs.Prelude.{IfOk, IfSome, replicate}
 use Rattle.std.proofs.lemmas.List.{length-replicate}
 use Rattle.core_syntax.specs.declared.span.Span.{Span}
+use Rattle.core_syntax.specs.Syntax.{Ty, Program}
+use Rattle.core_syntax.specs.Typing.{Has, body_context}
 use Rattle.code_text.specs.declared.code.Block.{Block}
 use Rattle.code_text.specs.Blame.{CodeText}
 use Rattle.code_text.specs.Ends.{Ends, start}
@@ -14,11 +16,11 @@ use Rattle.machine.specs.declared.running.Outcome.TheVariants as outcome
 use Rattle.machine.specs.Answers.{Answers}
 use Rattle.remora_driver.specs.declared.answer.Answer.{Answer as Given}
 use Rattle.remora_driver.specs.declared.status.Status.TheVariants as status
-use Rattle.remora_driver.specs.Due.{Answer, outcome_answer, IsCodeDue, ends, goes_on, EndsAsMeant, value, overflow, IsTermDue, in_time, too_late, IsRefused, IsRunDue, run_refused, runs, IsBuildDue, build_refused, builds, IsExecDue, text_too_long, no_code, executes, IsJobDue, no_job, does, refused, front, usage, too_long}
+use Rattle.remora_driver.specs.Due.{Answer, outcome_answer, IsCodeDue, ends, goes_on, EndsAsMeant, value, overflow, IsTermDue, in_time, too_late, IsRefused, too_long, IsAcceptedSource, IsCheckDue, check_refused, checks, HasNoCode, not_accepted, IsRunDue, run_refused, runs, IsBuildDue, build_refused, builds, IsExecDue, text_too_long, no_code, executes, IsJobDue, no_job, does, refused, accepted, front, usage}
 use Rattle.remora_driver.specs.Top.{IsTold, IsDueFor, IsAnswer}
 use Rattle.remora_driver.specs.Jobs.{longest, longest_code, IsJob}
 use Rattle.remora_driver.specs.declared.job.Job.{Job}
-use Rattle.remora_driver.specs.declared.job.Job.TheVariants.{Run, Build, Exec}
+use Rattle.remora_driver.specs.declared.job.Job.TheVariants.{Check, Build, Run, Exec}
 use Rattle.remora_driver.specs.Lowering.{code_of}
 use Rattle.remora_driver.specs.Sources.{IsCompiled, seen, told}
 use Rattle.remora_driver.specs.Terms.{Term}
@@ -55,22 +57,30 @@ term_due t budget a (n, o, meant) (ends k p le end is) =
 term_due t budget a (n, o, meant) (goes_on going is) =
     too_late n o meant (later budget n (Goes (start (code_of t))) going.0 o going.1 (end_of t n o meant)) going is
 
+pub check_due : {E : Type 0} (bytes : List ℕ) (P : Program) (t : Ty) (r : Result Given E) → IsAcceptedSource bytes P → ∥ Has (body_context P) P.body t ∥₁ → IfOk r (λ a. seen a ≡ accepted t) → IfOk r (λ a. IsCheckDue bytes (seen a))
+check_due bytes P t (Ok a) is has h = checks P t is has h
+check_due bytes P t (Err e) is has h = tt
+
+pub refused_check : {E : Type 0} (bytes : List ℕ) (number : ℕ) (at : Span) (r : Result Given E) → IsRefused bytes number at → IfOk r (λ a. seen a ≡ refused number at) → IfOk r (λ a. IsCheckDue bytes (seen a))
+refused_check bytes number at (Ok a) is h = check_refused number at is h
+refused_check bytes number at (Err e) is h = tt
+
 pub run_due : {E : Type 0} (bytes : List ℕ) (code : List Block) (budget : ℕ) (r : Result Given E) → IsCompiled bytes code → IfOk r (λ a. IsCodeDue code budget (seen a)) → IfOk r (λ a. IsRunDue bytes budget (seen a))
 run_due bytes code budget (Ok a) is h =
-    runs is.term is.accepted (term_due is.term budget (seen a) is.meant (subst (λ (c : List Block). IsCodeDue c budget (seen a)) is.compiled h))
+    runs is.term is.program (term_due is.term budget (seen a) is.meant (subst (λ (c : List Block). IsCodeDue c budget (seen a)) is.compiled h))
 run_due bytes code budget (Err e) is h = tt
 
-pub refused_run : {E : Type 0} (bytes : List ℕ) (number : ℕ) (at : Span) (budget : ℕ) (r : Result Given E) → IsRefused bytes number at → IfOk r (λ a. seen a ≡ refused number at) → IfOk r (λ a. IsRunDue bytes budget (seen a))
+pub refused_run : {E : Type 0} (bytes : List ℕ) (number : ℕ) (at : Span) (budget : ℕ) (r : Result Given E) → HasNoCode bytes number at → IfOk r (λ a. seen a ≡ refused number at) → IfOk r (λ a. IsRunDue bytes budget (seen a))
 refused_run bytes number at budget (Ok a) is h = run_refused number at is h
 refused_run bytes number at budget (Err e) is h = tt
 
 pub build_due : {E : Type 0} (bytes : List ℕ) (code : List Block) (r : Result Given E) → IsCompiled bytes code → IfOk r (λ a. seen a ≡ record { status = status.Ok; text = code_text code }) → IfOk r (λ a. IsBuildDue bytes (seen a))
 build_due bytes code (Ok a) is h =
-    builds is.term is.accepted
+    builds is.term is.program
     (record { status = ap (λ (x : Answer). x.status) h; text = subst (λ (c : List Block). CodeText c a.text.items) is.compiled (record { is = is.is; text = ap (λ (x : Answer). x.text) h }); meant = is.meant })
 build_due bytes code (Err e) is h = tt
 
-pub refused_build : {E : Type 0} (bytes : List ℕ) (number : ℕ) (at : Span) (r : Result Given E) → IsRefused bytes number at → IfOk r (λ a. seen a ≡ refused number at) → IfOk r (λ a. IsBuildDue bytes (seen a))
+pub refused_build : {E : Type 0} (bytes : List ℕ) (number : ℕ) (at : Span) (r : Result Given E) → HasNoCode bytes number at → IfOk r (λ a. seen a ≡ refused number at) → IfOk r (λ a. IsBuildDue bytes (seen a))
 refused_build bytes number at (Ok a) is h = build_refused number at is h
 refused_build bytes number at (Err e) is h = tt
 
@@ -82,8 +92,9 @@ exec_due bytes code budget (Err e) short is h = tt
 
 -- what is due for a job on bytes that are too long
 job_too_long : (job : Job) (bytes : List ℕ) (a : Answer) → longest job < length bytes → a ≡ refused 31 front → IsJobDue job bytes a
-job_too_long (Run budget) bytes a long is = run_refused 31 front (too_long long refl refl) is
-job_too_long Build bytes a long is = build_refused 31 front (too_long long refl refl) is
+job_too_long Check bytes a long is = check_refused 31 front (too_long long refl refl) is
+job_too_long Build bytes a long is = build_refused 31 front (not_accepted (too_long long refl refl)) is
+job_too_long (Run budget) bytes a long is = run_refused 31 front (not_accepted (too_long long refl refl)) is
 job_too_long (Exec budget) bytes a long is = text_too_long long is
 
 -- there are as many bytes as one likes
@@ -111,6 +122,10 @@ term_answers : (t : Term) (budget : ℕ) (a : Answer) → IsTermDue t budget a �
 term_answers t budget a (in_time n o meant le is) = subst (λ (b : Answer). IsAnswer b.status) (sym is) (outcome_answers o)
 term_answers t budget a (too_late n o meant lt going is) = subst (λ (b : Answer). IsAnswer b.status) (sym is) tt
 
+check_answers : (bytes : List ℕ) (a : Answer) → IsCheckDue bytes a → IsAnswer a.status
+check_answers bytes a (check_refused number at why is) = subst (λ (b : Answer). IsAnswer b.status) (sym is) tt
+check_answers bytes a (checks P t source has is) = subst (λ (b : Answer). IsAnswer b.status) (sym is) tt
+
 run_answers : (bytes : List ℕ) (budget : ℕ) (a : Answer) → IsRunDue bytes budget a → IsAnswer a.status
 run_answers bytes budget a (run_refused number at why is) = subst (λ (b : Answer). IsAnswer b.status) (sym is) tt
 run_answers bytes budget a (runs t is due) = term_answers t budget a due
@@ -125,8 +140,9 @@ exec_answers bytes budget a (no_code short none is) = subst (λ (b : Answer). Is
 exec_answers bytes budget a (executes c short is due) = code_answers c budget a due
 
 job_answers : (job : Job) (bytes : List ℕ) (a : Answer) → IsJobDue job bytes a → IsAnswer a.status
-job_answers (Run budget) bytes a due = run_answers bytes budget a due
+job_answers Check bytes a due = check_answers bytes a due
 job_answers Build bytes a due = build_answers bytes a due
+job_answers (Run budget) bytes a due = run_answers bytes budget a due
 job_answers (Exec budget) bytes a due = exec_answers bytes budget a due
 
 pub due_answers : (words : List (List ℕ)) (left : Option (List ℕ)) (a : Answer) → IsDueFor words left a → IsAnswer a.status

@@ -1,6 +1,7 @@
 pub mod Answers
 pub mod Bodies
 pub mod Dues
+pub mod Framed
 pub mod Greatest
 pub mod ItemTexts
 pub mod JobWords

@@ -1,8 +1,16 @@
 -- One answer is due.
-use Rattle.std.proofs.Common.{◌≡◌, sym, ap, ◌∙◌, subst, ℕ, ◌<◌, ◌≤◌, arith, List, length, Option, Some, Result, Ok, Err}
+use Rattle.std.proofs.Common.{◌≡◌, sym, ap, ◌∙◌, subst, ℕ, ◌<◌, ◌≤◌, arith, List, ◌++◌, length, Option, Some, Ok, Err}
 use Rattle.std.proofs.lemmas.Option.{none-some}
+use Rattle.std.proofs.Math.Logic.{∥∥₁_elim}
+use Rattle.std.specs.Coded.{Coded-set, coded_list, coded_ℕ}
 use Rattle.core_syntax.specs.declared.span.Span.{Span}
-use Rattle.core_syntax.specs.Syntax.{Program}
+use Rattle.core_syntax.specs.Blame.{Blames}
+use Rattle.core_syntax.specs.NormTypes.{ty_text}
+use Rattle.core_syntax.specs.Syntax.{Ty, Program}
+use Rattle.core_syntax.specs.Typing.{Has, body_context}
+use Rattle.core_syntax.proofs.NormTyLemmas.{same_normal}
+use Rattle.core_syntax.proofs.OneBlame.{one_blame, accepted_alone}
+use Rattle.core_syntax.proofs.Unique.{unique}
 use Rattle.sexp_reader.specs.Forms.{Forms}
 use Rattle.sexp_reader.specs.Reads.{Reads, Refusal, read_blame}
 use Rattle.sexp_reader.proofs.Leftmost.{reads_one_way, reads_or_is_refused}
@@ -16,15 +24,16 @@ use Rattle.code_text.proofs.Verdicts.{text_read, only_code}
 use Rattle.std.specs.Prelude.{codes}
 use Rattle.std.specs.Str.Parse.{digits_value}
 use Rattle.remora_driver.specs.declared.job.Job.{Job}
-use Rattle.remora_driver.specs.declared.job.Job.TheVariants.{Run, Build, Exec}
-use Rattle.remora_driver.specs.Due.{Answer, refused, outcome_answer, IsCodeDue, ends, goes_on, IsTermDue, in_time, too_late, IsBuilt, IsSource, IsProgram, IsRefused, too_long, unread, unresolved, not_built, no_frame, IsAccepted, IsRunDue, run_refused, runs, IsBuildDue, build_refused, builds, IsExecDue, text_too_long, no_code, executes, IsJobDue, IsDue, no_job, does}
+use Rattle.remora_driver.specs.declared.status.Status.TheVariants as status
+use Rattle.remora_driver.specs.declared.job.Job.TheVariants.{Check, Build, Run, Exec}
+use Rattle.remora_driver.specs.Due.{Answer, refused, outcome_answer, IsCodeDue, ends, goes_on, IsTermDue, in_time, too_late, IsBuilt, IsSource, IsAcceptedSource, IsProgram, IsRefused, too_long, unread, unresolved, ill_typed, IsCheckDue, check_refused, checks, HasNoCode, not_accepted, not_built, IsRunDue, run_refused, runs, IsBuildDue, build_refused, builds, IsExecDue, text_too_long, no_code, executes, IsJobDue, IsDue, no_job, does}
 use Rattle.remora_driver.specs.Fragment.{RunsToday}
 use Rattle.remora_driver.specs.Jobs.{IsJob, plain, limited, plain_job, limited_job}
 use Rattle.remora_driver.specs.Lowering.{code_of}
 use Rattle.remora_driver.specs.Bodies.{body_term}
 use Rattle.remora_driver.proofs.Bodies.{body_read}
 use Rattle.remora_driver.specs.Terms.{Term}
-use Rattle.remora_driver.specs.Values.{shape_of}
+use Rattle.remora_driver.specs.Texts.{line, accepted_text}
 use Rattle.remora_driver.proofs.Dues.{end_of}
 use Rattle.remora_driver.proofs.JobWords.{first_of_two, two_four, first_of_four, last_of_four}
 use Rattle.remora_driver.proofs.Runs.{later, once}
@@ -65,7 +74,7 @@ one_body P Q s t e p q =
     cc
 
 one_program : (bytes : List ℕ) (s t : Term) → IsProgram bytes s → IsProgram bytes t → s ≡ t
-one_program bytes s t p q = one_body p.program q.program s t (one_source bytes p.program q.program p.means q.means) p.body q.body
+one_program bytes s t p q = one_body p.program q.program s t (one_source bytes p.program q.program p.source.means q.source.means) p.body q.body
 
 -- a text that reads as forms isn't refused by the reader, and one that means a program isn't by the names
 blamed_unread : (bytes : List ℕ) (fs : Forms) (r : Refusal) → read_blame bytes ≡ Some r → Reads bytes fs → ⊥
@@ -76,66 +85,87 @@ blamed_unmeant bytes fs r P reads blamed is =
     let same : ◌≡◌ {A = Read Program} (Err r) (Ok P) = sym blamed ∙ ap program (reads_one_way bytes fs is.forms reads is.reads) ∙ is.means in
     absurd (cc)
 
--- the program runs today, or doesn't
-runs_or_not : (bytes : List ℕ) (P : Program) (t : Term) → IsSource bytes P → ((s : Term) → ¬ (RunsToday P s)) → IsProgram bytes t → ⊥
-runs_or_not bytes P t is none means = none t (subst (λ (Q : Program). RunsToday Q t) (one_source bytes means.program P means.means is) means.body)
-
 pair_same : (m n : ℕ) (p q : Span) → ◌≡◌ {A = Option Refusal} (Some (m, p)) (Some (n, q)) → (m ≡ n) × (p ≡ q)
 pair_same m n p q e = let h : ◌≡◌ {A = Refusal} (m, p) (n, q) = cc in (ap (λ (r : Refusal). r.0) h, ap (λ (r : Refusal). r.1) h)
 
 blame_same : (m n : ℕ) (p q : Span) → ◌≡◌ {A = Read Program} (Err (m, p)) (Err (n, q)) → (m ≡ n) × (p ≡ q)
 blame_same m n p q e = let h : ◌≡◌ {A = Refusal} (m, p) (n, q) = cc in (ap (λ (r : Refusal). r.0) h, ap (λ (r : Refusal). r.1) h)
 
-err_same : (p q : Span) → ◌≡◌ {A = Result (List ℕ) Span} (Err p) (Err q) → p ≡ q
-err_same p q e = cc
-
-err_ok : (at : Span) (ds : List ℕ) → ◌≡◌ {A = Result (List ℕ) Span} (Err at) (Ok ds) → ⊥
-err_ok at ds e = absurd (cc)
-
 refused_same : (m n : ℕ) (p q : Span) → m ≡ n → p ≡ q → refused m p ≡ refused n q
 refused_same m n p q e h = ap (λ (k : ℕ). refused k p) e ∙ ap (refused n) h
+
+-- a program that equals a blamed one is blamed
+blamed_same : (bytes : List ℕ) (P Q : Program) (r : Refusal) → IsSource bytes P → IsSource bytes Q → Blames P r → Blames Q r
+blamed_same bytes P Q r p q b = subst (λ (R : Program). Blames R r) (one_source bytes P Q p q) b
 
 one_refusal : (bytes : List ℕ) (m n : ℕ) (p q : Span) → IsRefused bytes m p → IsRefused bytes n q → refused m p ≡ refused n q
 one_refusal bytes m n p q (too_long l e h) (too_long l' e' h') = refused_same m n p q (e ∙ sym e') (h ∙ sym h')
 one_refusal bytes m n p q (too_long l e h) (unread s' b') = absurd (omega (arith, l, s'))
 one_refusal bytes m n p q (too_long l e h) (unresolved gs s' reads' b') = absurd (omega (arith, l, s'))
-one_refusal bytes m n p q (too_long l e h) (not_built Q s' is' none' e' h') = absurd (omega (arith, l, s'))
-one_refusal bytes m n p q (too_long l e h) (no_frame u s' means' h' e') = absurd (omega (arith, l, s'))
+one_refusal bytes m n p q (too_long l e h) (ill_typed Q s' is' b') = absurd (omega (arith, l, s'))
 one_refusal bytes m n p q (unread s b) (too_long l' e' h') = absurd (omega (arith, l', s))
 one_refusal bytes m n p q (unread s b) (unread s' b') = let same = pair_same m n p q (sym b ∙ b') in refused_same m n p q same.0 same.1
 one_refusal bytes m n p q (unread s b) (unresolved gs s' reads' b') = absurd (blamed_unread bytes gs (m, p) b reads')
-one_refusal bytes m n p q (unread s b) (not_built Q s' is' none' e' h') = absurd (blamed_unread bytes is'.forms (m, p) b is'.reads)
-one_refusal bytes m n p q (unread s b) (no_frame u s' means' h' e') = absurd (blamed_unread bytes means'.means.forms (m, p) b means'.means.reads)
+one_refusal bytes m n p q (unread s b) (ill_typed Q s' is' b') = absurd (blamed_unread bytes is'.forms (m, p) b is'.reads)
 one_refusal bytes m n p q (unresolved fs s reads b) (too_long l' e' h') = absurd (omega (arith, l', s))
 one_refusal bytes m n p q (unresolved fs s reads b) (unread s' b') = absurd (blamed_unread bytes fs (n, q) b' reads)
 one_refusal bytes m n p q (unresolved fs s reads b) (unresolved gs s' reads' b') = let same = blame_same m n p q (sym b ∙ ap program (reads_one_way bytes fs gs reads reads') ∙ b') in refused_same m n p q same.0 same.1
-one_refusal bytes m n p q (unresolved fs s reads b) (not_built Q s' is' none' e' h') = absurd (blamed_unmeant bytes fs (m, p) Q reads b is')
-one_refusal bytes m n p q (unresolved fs s reads b) (no_frame u s' means' h' e') = absurd (blamed_unmeant bytes fs (m, p) means'.program reads b means'.means)
-one_refusal bytes m n p q (not_built P s is none e h) (too_long l' e' h') = absurd (omega (arith, l', s))
-one_refusal bytes m n p q (not_built P s is none e h) (unread s' b') = absurd (blamed_unread bytes is.forms (n, q) b' is.reads)
-one_refusal bytes m n p q (not_built P s is none e h) (unresolved gs s' reads' b') = absurd (blamed_unmeant bytes gs (n, q) P reads' b' is)
-one_refusal bytes m n p q (not_built P s is none e h) (not_built Q s' is' none' e' h') = refused_same m n p q (e ∙ sym e') (h ∙ sym h')
-one_refusal bytes m n p q (not_built P s is none e h) (no_frame u s' means' h' e') = absurd (runs_or_not bytes P u is none means')
-one_refusal bytes m n p q (no_frame t s means h e) (too_long l' e' h') = absurd (omega (arith, l', s))
-one_refusal bytes m n p q (no_frame t s means h e) (unread s' b') = absurd (blamed_unread bytes means.means.forms (n, q) b' means.means.reads)
-one_refusal bytes m n p q (no_frame t s means h e) (unresolved gs s' reads' b') = absurd (blamed_unmeant bytes gs (n, q) means.program reads' b' means.means)
-one_refusal bytes m n p q (no_frame t s means h e) (not_built Q s' is' none' e' h') = absurd (runs_or_not bytes Q t is' none' means)
-one_refusal bytes m n p q (no_frame t s means h e) (no_frame u s' means' h' e') = refused_same m n p q (e ∙ sym e') (err_same p q (sym h ∙ ap shape_of (one_program bytes t u means means') ∙ h'))
+one_refusal bytes m n p q (unresolved fs s reads b) (ill_typed Q s' is' b') = absurd (blamed_unmeant bytes fs (m, p) Q reads b is')
+one_refusal bytes m n p q (ill_typed P s is b) (too_long l' e' h') = absurd (omega (arith, l', s))
+one_refusal bytes m n p q (ill_typed P s is b) (unread s' b') = absurd (blamed_unread bytes is.forms (n, q) b' is.reads)
+one_refusal bytes m n p q (ill_typed P s is b) (unresolved gs s' reads' b') = absurd (blamed_unmeant bytes gs (n, q) P reads' b' is)
+one_refusal bytes m n p q (ill_typed P s is b) (ill_typed Q s' is' b') =
+    let same : ◌≡◌ {A = Refusal} (m, p) (n, q) = one_blame Q (m, p) (n, q) (blamed_same bytes P Q (m, p) is is' b) b' in
+    refused_same m n p q (ap (λ (r : Refusal). r.0) same) (ap (λ (r : Refusal). r.1) same)
 
 -- what is refused isn't accepted
-refused_or_not : (bytes : List ℕ) (n : ℕ) (at : Span) (t : Term) → IsRefused bytes n at → IsAccepted bytes t → ⊥
-refused_or_not bytes n at t (too_long l e h) is = absurd (omega (arith, l, is.short))
-refused_or_not bytes n at t (unread s b) is = blamed_unread bytes is.means.means.forms (n, at) b is.means.means.reads
-refused_or_not bytes n at t (unresolved fs s reads b) is = blamed_unmeant bytes fs (n, at) is.means.program reads b is.means.means
-refused_or_not bytes n at t (not_built P s source none e h) is = runs_or_not bytes P t source none is.means
-refused_or_not bytes n at t (no_frame u s means h e) is = err_ok at is.shape (sym h ∙ ap shape_of (one_program bytes u t means is.means) ∙ is.framed)
+refused_or_not : (bytes : List ℕ) (n : ℕ) (at : Span) (P : Program) → IsRefused bytes n at → IsAcceptedSource bytes P → ⊥
+refused_or_not bytes n at P (too_long l e h) is = absurd (omega (arith, l, is.short))
+refused_or_not bytes n at P (unread s b) is = blamed_unread bytes is.means.forms (n, at) b is.means.reads
+refused_or_not bytes n at P (unresolved fs s reads b) is = blamed_unmeant bytes fs (n, at) P reads b is.means
+refused_or_not bytes n at P (ill_typed Q s source b) is =
+    ∥∥₁_elim is.accepted (λ x y. absurd x) (λ met. accepted_alone P (n, at) met (blamed_same bytes Q P (n, at) source is.means b))
+
+-- ---- checks
+
+-- two types of the body of one program have one text
+one_text : (P Q : Program) (t u : Ty) → P ≡ Q → ∥ Has (body_context P) P.body t ∥₁ → ∥ Has (body_context Q) Q.body u ∥₁ → accepted_text t ≡ accepted_text u
+one_text P Q t u e p q =
+    let one = Coded-set (coded_list coded_ℕ) (accepted_text t) (accepted_text u) in
+    ∥∥₁_elim p one (λ h.
+    ∥∥₁_elim q one (λ k.
+    ap (λ (n : Ty). codes "ok " ++ ty_text n) (same_normal t u (unique (body_context Q) Q.body t u (subst (λ (R : Program). Has (body_context R) R.body t) e h) k))))
+
+one_check : (bytes : List ℕ) (a b : Answer) → IsCheckDue bytes a → IsCheckDue bytes b → a ≡ b
+one_check bytes a b (check_refused m p why e) (check_refused n q why' h) = e ∙ one_refusal bytes m n p q why why' ∙ sym h
+one_check bytes a b (check_refused m p why e) (checks P t is has h) = absurd (refused_or_not bytes m p P why is)
+one_check bytes a b (checks P t is has e) (check_refused m p why h) = absurd (refused_or_not bytes m p P why is)
+one_check bytes a b (checks P t is has e) (checks Q u is' has' h) =
+    e ∙ ap (λ (text : List ℕ). record { status = status.Ok; text = line text }) (one_text P Q t u (one_source bytes P Q is.means is'.means) has has') ∙ sym h
+
+-- ---- runs of programs
+
+-- the program runs today, or doesn't
+runs_or_not : (bytes : List ℕ) (P : Program) (t : Term) → IsSource bytes P → ((s : Term) → ¬ (RunsToday P s)) → IsProgram bytes t → ⊥
+runs_or_not bytes P t is none means = none t (subst (λ (Q : Program). RunsToday Q t) (one_source bytes means.program P means.source.means is) means.body)
+
+one_no_code : (bytes : List ℕ) (m n : ℕ) (p q : Span) → HasNoCode bytes m p → HasNoCode bytes n q → refused m p ≡ refused n q
+one_no_code bytes m n p q (not_accepted why) (not_accepted why') = one_refusal bytes m n p q why why'
+one_no_code bytes m n p q (not_accepted why) (not_built Q is none e h) = absurd (refused_or_not bytes m p Q why is)
+one_no_code bytes m n p q (not_built P is none e h) (not_accepted why) = absurd (refused_or_not bytes n q P why is)
+one_no_code bytes m n p q (not_built P is none e h) (not_built Q is' none' e' h') = refused_same m n p q (e ∙ sym e') (h ∙ sym h')
+
+-- what has no code doesn't run
+code_or_not : (bytes : List ℕ) (n : ℕ) (at : Span) (t : Term) → HasNoCode bytes n at → IsProgram bytes t → ⊥
+code_or_not bytes n at t (not_accepted why) is = refused_or_not bytes n at is.program why is.source
+code_or_not bytes n at t (not_built P source none e h) is = runs_or_not bytes P t source.means none is
 
 one_run : (bytes : List ℕ) (budget : ℕ) (a b : Answer) → IsRunDue bytes budget a → IsRunDue bytes budget b → a ≡ b
-one_run bytes budget a b (run_refused m p why e) (run_refused n q why' h) = e ∙ one_refusal bytes m n p q why why' ∙ sym h
-one_run bytes budget a b (run_refused m p why e) (runs t is due) = absurd (refused_or_not bytes m p t why is)
-one_run bytes budget a b (runs t is due) (run_refused m p why e) = absurd (refused_or_not bytes m p t why is)
+one_run bytes budget a b (run_refused m p why e) (run_refused n q why' h) = e ∙ one_no_code bytes m n p q why why' ∙ sym h
+one_run bytes budget a b (run_refused m p why e) (runs t is due) = absurd (code_or_not bytes m p t why is)
+one_run bytes budget a b (runs t is due) (run_refused m p why e) = absurd (code_or_not bytes m p t why is)
 one_run bytes budget a b (runs t is due) (runs u is' due') =
-    one_term_due u budget a b (subst (λ (s : Term). IsTermDue s budget a) (one_program bytes t u is.means is'.means) due) due'
+    one_term_due u budget a b (subst (λ (s : Term). IsTermDue s budget a) (one_program bytes t u is is') due) due'
 
 one_built : (t : Term) (a b : Answer) → IsBuilt t a → IsBuilt t b → a ≡ b
 one_built t a b p q =
@@ -144,11 +174,11 @@ one_built t a b p q =
     λ i. record { status = status i; text = text i }
 
 one_build : (bytes : List ℕ) (a b : Answer) → IsBuildDue bytes a → IsBuildDue bytes b → a ≡ b
-one_build bytes a b (build_refused m p why e) (build_refused n q why' h) = e ∙ one_refusal bytes m n p q why why' ∙ sym h
-one_build bytes a b (build_refused m p why e) (builds t is built) = absurd (refused_or_not bytes m p t why is)
-one_build bytes a b (builds t is built) (build_refused m p why e) = absurd (refused_or_not bytes m p t why is)
+one_build bytes a b (build_refused m p why e) (build_refused n q why' h) = e ∙ one_no_code bytes m n p q why why' ∙ sym h
+one_build bytes a b (build_refused m p why e) (builds t is built) = absurd (code_or_not bytes m p t why is)
+one_build bytes a b (builds t is built) (build_refused m p why e) = absurd (code_or_not bytes m p t why is)
 one_build bytes a b (builds t is built) (builds u is' built') =
-    one_built u a b (subst (λ (s : Term). IsBuilt s a) (one_program bytes t u is.means is'.means) built) built'
+    one_built u a b (subst (λ (s : Term). IsBuilt s a) (one_program bytes t u is is') built) built'
 
 -- ---- code texts
 
@@ -185,8 +215,9 @@ one_job words j k (limited c f s n w b p) (limited d g r m v b' q) =
     job_same j k (sym p ∙ ap (limited_job c) same ∙ ap (λ (x : List ℕ). limited_job x m) (first_of_four c d f g (codes "--steps") (codes "--steps") s r (sym w ∙ v)) ∙ q)
 
 one_job_due : (job : Job) (bytes : List ℕ) (a b : Answer) → IsJobDue job bytes a → IsJobDue job bytes b → a ≡ b
-one_job_due (Run budget) bytes a b p q = one_run bytes budget a b p q
+one_job_due Check bytes a b p q = one_check bytes a b p q
 one_job_due Build bytes a b p q = one_build bytes a b p q
+one_job_due (Run budget) bytes a b p q = one_run bytes budget a b p q
 one_job_due (Exec budget) bytes a b p q = one_exec bytes budget a b p q
 
 pub one_due : (words : List (List ℕ)) (bytes : List ℕ) (a b : Answer) → IsDue words bytes a → IsDue words bytes b → a ≡ b

@@ -1,10 +1,12 @@
 -- The answers that are due.
-use Rattle.std.specs.Prelude.{◌≡◌, ℕ, ◌+◌, ◌<◌, ◌≤◌, List, length, Some, None, Ok, Err}
+use Rattle.std.specs.Prelude.{◌≡◌, ℕ, ◌+◌, ◌<◌, ◌≤◌, List, length, Some, None}
 use Rattle.core_syntax.specs.declared.span.Span.{Span}
 use Rattle.core_syntax.specs.declared.errors.StuckKind.{StuckKind}
 use Rattle.core_syntax.specs.declared.errors.TrapKind.{TrapKind}
 use Rattle.core_syntax.specs.declared.errors.TrapKind.TheVariants.{Overflow}
-use Rattle.core_syntax.specs.Syntax.{Program}
+use Rattle.core_syntax.specs.Blame.{Blames, IsAccepted}
+use Rattle.core_syntax.specs.Syntax.{Ty, Program}
+use Rattle.core_syntax.specs.Typing.{Has, Typed, body_context}
 use Rattle.array_values.specs.declared.array.Array.{Array}
 use Rattle.code_text.specs.declared.code.Block.{Block}
 use Rattle.code_text.specs.Blame.{CodeText}
@@ -14,7 +16,7 @@ use Rattle.sexp_reader.specs.Forms.{Forms}
 use Rattle.sexp_reader.specs.Reads.{Reads, read_blame}
 use Rattle.name_resolve.specs.Means.{Means, NameBlame}
 use Rattle.remora_driver.specs.declared.job.Job.{Job}
-use Rattle.remora_driver.specs.declared.job.Job.TheVariants.{Run, Build, Exec}
+use Rattle.remora_driver.specs.declared.job.Job.TheVariants.{Check, Build, Run, Exec}
 use Rattle.remora_driver.specs.declared.status.Status.{Status}
 use Rattle.remora_driver.specs.declared.status.Status.TheVariants as status
 use Rattle.remora_driver.specs.Arrays.{Integers, values}
@@ -22,8 +24,8 @@ use Rattle.remora_driver.specs.Fragment.{RunsToday}
 use Rattle.remora_driver.specs.Jobs.{longest_source, longest_code, IsJob, IsCall}
 use Rattle.remora_driver.specs.Lowering.{code_of, steps_of}
 use Rattle.remora_driver.specs.Terms.{Term}
-use Rattle.remora_driver.specs.Texts.{line, array_text, refusal_text, trap_text, stuck_text, still_running_text, usage_text}
-use Rattle.remora_driver.specs.Values.{shape_of, value_of}
+use Rattle.remora_driver.specs.Texts.{line, array_text, accepted_text, refusal_text, trap_text, stuck_text, still_running_text, usage_text}
+use Rattle.remora_driver.specs.Values.{value_of}
 
 -- a status, and the text that is written with it
 pub record Answer : Type 0 where
@@ -37,6 +39,10 @@ usage = record { status = status.Usage; text = line usage_text }
 -- a refusal and its line
 abbrev pub refused : ℕ → Span → Answer
 refused number at = record { status = status.Refused number at; text = line (refusal_text number at) }
+
+-- the type of an accepted program's body, and its line
+abbrev pub accepted : Ty → Answer
+accepted t = record { status = status.Ok; text = line (accepted_text t) }
 
 -- a value and its line
 abbrev pub shown : Array → Answer
@@ -96,12 +102,6 @@ pub record IsSource (bytes : List ℕ) (P : Program) : Type 0 where
   pub reads : Reads bytes forms
   pub means : Means forms P
 
--- the text means a program that runs today, with this body
-pub record IsProgram (bytes : List ℕ) (t : Term) : Type 0 where
-  pub program : Program
-  pub means : IsSource bytes program
-  pub body : RunsToday program t
-
 -- why a program source is refused, in this order
 pub data IsRefused (bytes : List ℕ) (number : ℕ) (at : Span) : Type 0 where
   too_long : longest_source < length bytes → number ≡ 31 → at ≡ front → IsRefused bytes number at
@@ -109,26 +109,42 @@ pub data IsRefused (bytes : List ℕ) (number : ℕ) (at : Span) : Type 0 where
   unread : length bytes ≤ longest_source → read_blame bytes ≡ Some (number, at) → IsRefused bytes number at
   -- 7 to 12: the forms that it reads as mean no program
   unresolved : (fs : Forms) → length bytes ≤ longest_source → Reads bytes fs → NameBlame fs (number, at) → IsRefused bytes number at
-  -- the program that it means doesn't run today
-  not_built : (P : Program) → length bytes ≤ longest_source → IsSource bytes P → ((t : Term) → ¬ (RunsToday P t)) → number ≡ 90 → at ≡ front → IsRefused bytes number at
-  no_frame : (t : Term) → length bytes ≤ longest_source → IsProgram bytes t → shape_of t ≡ Err at → number ≡ 22 → IsRefused bytes number at
+  -- 13 to 30: the program that it means isn't typed, or a measure is too large
+  ill_typed : (P : Program) → length bytes ≤ longest_source → IsSource bytes P → Blames P (number, at) → IsRefused bytes number at
 
--- the text means a program with this body, whose applications have their frames
-pub record IsAccepted (bytes : List ℕ) (t : Term) : Type 0 where
+-- the text means this program, which is typed and whose measures hold
+pub record IsAcceptedSource (bytes : List ℕ) (P : Program) : Type 0 where
   pub short : length bytes ≤ longest_source
-  pub means : IsProgram bytes t
-  pub shape : List ℕ
-  pub framed : shape_of t ≡ Ok shape
+  pub means : IsSource bytes P
+  pub accepted : ∥ IsAccepted P ∥₁
+  -- the rules of typing type it
+  pub typed : ∥ Typed P ∥₁
+
+-- what is due for a program source that is checked: its refusal, or the type of its program's body
+pub data IsCheckDue (bytes : List ℕ) (a : Answer) : Type 0 where
+  check_refused : (number : ℕ) (at : Span) → IsRefused bytes number at → a ≡ refused number at → IsCheckDue bytes a
+  checks : (P : Program) (t : Ty) → IsAcceptedSource bytes P → ∥ Has (body_context P) P.body t ∥₁ → a ≡ accepted t → IsCheckDue bytes a
+
+-- why a program source has no code: it is refused, or its program is accepted but doesn't run today
+pub data HasNoCode (bytes : List ℕ) (number : ℕ) (at : Span) : Type 0 where
+  not_accepted : IsRefused bytes number at → HasNoCode bytes number at
+  not_built : (P : Program) → IsAcceptedSource bytes P → ((t : Term) → ¬ (RunsToday P t)) → number ≡ 90 → at ≡ front → HasNoCode bytes number at
+
+-- the text means an accepted program that runs today, with this body
+pub record IsProgram (bytes : List ℕ) (t : Term) : Type 0 where
+  pub program : Program
+  pub source : IsAcceptedSource bytes program
+  pub body : RunsToday program t
 
 -- what is due for a program source that is run
 pub data IsRunDue (bytes : List ℕ) (budget : ℕ) (a : Answer) : Type 0 where
-  run_refused : (number : ℕ) (at : Span) → IsRefused bytes number at → a ≡ refused number at → IsRunDue bytes budget a
-  runs : (t : Term) → IsAccepted bytes t → IsTermDue t budget a → IsRunDue bytes budget a
+  run_refused : (number : ℕ) (at : Span) → HasNoCode bytes number at → a ≡ refused number at → IsRunDue bytes budget a
+  runs : (t : Term) → IsProgram bytes t → IsTermDue t budget a → IsRunDue bytes budget a
 
 -- what is due for a program source of which the code is built
 pub data IsBuildDue (bytes : List ℕ) (a : Answer) : Type 0 where
-  build_refused : (number : ℕ) (at : Span) → IsRefused bytes number at → a ≡ refused number at → IsBuildDue bytes a
-  builds : (t : Term) → IsAccepted bytes t → IsBuilt t a → IsBuildDue bytes a
+  build_refused : (number : ℕ) (at : Span) → HasNoCode bytes number at → a ≡ refused number at → IsBuildDue bytes a
+  builds : (t : Term) → IsProgram bytes t → IsBuilt t a → IsBuildDue bytes a
 
 -- ---- code texts
 
@@ -142,8 +158,9 @@ pub data IsExecDue (bytes : List ℕ) (budget : ℕ) (a : Answer) : Type 0 where
 
 -- what is due for a job on these bytes
 abbrev pub IsJobDue : Job → List ℕ → Answer → Type 0
-IsJobDue (Run budget) bytes a = IsRunDue bytes budget a
+IsJobDue Check bytes a = IsCheckDue bytes a
 IsJobDue Build bytes a = IsBuildDue bytes a
+IsJobDue (Run budget) bytes a = IsRunDue bytes budget a
 IsJobDue (Exec budget) bytes a = IsExecDue bytes budget a
 
 -- what is due for these words and bytes

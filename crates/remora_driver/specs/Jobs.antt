@@ -3,7 +3,7 @@ use Rattle.std.specs.Prelude.{◌≡◌, ℕ, ◌≤◌, List, [], ◌∷◌, le
 use Rattle.std.specs.Str.{bytes_eq}
 use Rattle.std.specs.Str.Parse.{IsNumeral, digits_value}
 use Rattle.remora_driver.specs.declared.job.Job.{Job}
-use Rattle.remora_driver.specs.declared.job.Job.TheVariants.{Run, Build, Exec}
+use Rattle.remora_driver.specs.declared.job.Job.TheVariants.{Check, Build, Run, Exec}
 
 -- the budget of words that give none
 abbrev pub usual_budget : ℕ
@@ -25,7 +25,9 @@ limited_job command budget =
 
 -- the job of a command without one
 abbrev pub plain_job : List ℕ → Option Job
-plain_job command = if bytes_eq command (codes "build") then Some Build else limited_job command usual_budget
+plain_job command =
+    if bytes_eq command (codes "check") then Some Check else
+    if bytes_eq command (codes "build") then Some Build else limited_job command usual_budget
 
 -- the words ask for the job: a command and a file, and then perhaps `--steps` and a budget
 pub data IsJob (words : List (List ℕ)) (job : Job) : Type 0 where
@@ -46,6 +48,7 @@ longest_code = 16777216
 
 -- the most bytes of what a job reads
 abbrev pub longest : Job → ℕ
-longest (Run budget) = longest_source
+longest Check = longest_source
 longest Build = longest_source
+longest (Run budget) = longest_source
 longest (Exec budget) = longest_code

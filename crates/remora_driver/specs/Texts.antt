@@ -6,6 +6,8 @@ use Rattle.core_syntax.specs.declared.errors.TrapKind.{TrapKind}
 use Rattle.core_syntax.specs.declared.errors.TrapKind.TheVariants.{Overflow, Zero, Size}
 use Rattle.core_syntax.specs.declared.errors.StuckKind.{StuckKind}
 use Rattle.core_syntax.specs.declared.errors.StuckKind.TheVariants.{Operand, Kind, Rank, Shape}
+use Rattle.core_syntax.specs.NormTypes.{norm_ty, ty_text}
+use Rattle.core_syntax.specs.Syntax.{Ty}
 use Rattle.array_values.specs.declared.array.Array.{Array}
 use Rattle.array_values.specs.declared.value.Value.{Value}
 use Rattle.array_values.specs.declared.value.Value.TheVariants.{Int, Prim}
@@ -27,6 +29,10 @@ atom_text (Prim op) = codes "#fn"
 -- an array: its dimensions in parentheses, and its atoms
 abbrev pub array_text : Array → List ℕ
 array_text a = codes "(array (" ++ dims_text a.dims ++ codes ")" ++ flat_map (λ v. 32 ∷ atom_text v) a.atoms ++ codes ")"
+
+-- an accepted program: `ok` and the normal form of its body's type
+abbrev pub accepted_text : Ty → List ℕ
+accepted_text t = codes "ok " ++ ty_text (norm_ty t)
 
 -- a refusal: its number, and the line and column of its place
 abbrev pub refusal_text : ℕ → Span → List ℕ

@@ -1,15 +1,16 @@
 // Answers: a status, and the text that is written with it.
 ghost use Rattle.std.specs.Prelude.{◌≡◌, IfOk, string_bytes};
 ghost use Rattle.core_syntax.specs.declared.span.Span.{Span};
-ghost use Rattle.remora_driver.specs.Due.{refused, trapped, stuck as stuck_answer, still_running as still_running_answer, shown, usage, front};
+ghost use Rattle.core_syntax.specs.Refine.{ty_of};
+ghost use Rattle.remora_driver.specs.Due.{refused, trapped, stuck as stuck_answer, still_running as still_running_answer, shown, accepted, usage, front};
 ghost use Rattle.remora_driver.specs.Sources.{seen};
 
 use crate::status::Status;
 use crate::texts::{
-    array_line, refusal_line, still_running_line, stuck_line, trap_line, usage_line,
+    array_line, refusal_line, still_running_line, stuck_line, trap_line, type_line, usage_line,
 };
 use array_values::Array;
-use core_syntax::{Memory, Span, StuckKind, TrapKind};
+use core_syntax::{Memory, Span, StuckKind, TrapKind, Ty};
 use std::alloc::Global;
 
 /// A status, and the text that is written with it.
@@ -41,7 +42,7 @@ pub const FRONT: Span = Span {
 pub const NOT_BUILT: u8 = 90;
 
 /// The number of a source that is too long.
-const TOO_LONG: u8 = 31;
+pub const TOO_LONG: u8 = 31;
 
 /// The answer to a source that is refused with this number at this place.
 pub fn refusal(alloc: Global, number: u8, span: Span) -> Result<Answer, Memory>
@@ -79,6 +80,17 @@ pub fn shown_array(alloc: Global, array: &Array) -> Result<Answer, Memory>
     ensures { IfOk result (λ a. seen a ≡ shown array.now) }
 {
     Ok(with_line(Status::Ok, array_line(alloc, array)?))
+}
+
+/// The answer that shows the type of an accepted program's body. The type is measured.
+pub fn type_answer(alloc: Global, ty: &Ty) -> Result<Answer, Memory>
+    ensures { IfOk result (λ a. seen a ≡ accepted (ty_of ty.now)) }
+{
+    let text = type_line(alloc, ty)?;
+    Ok(Answer {
+        status: Status::Ok,
+        text,
+    })
 }
 
 /// The answer to words that are no call.

@@ -2,18 +2,22 @@
 ghost use Rattle.code_text.specs.Text.{code_text};
 ghost use Rattle.remora_driver.specs.declared.status.Status.TheVariants as statuses;
 ghost use Rattle.std.specs.Prelude.{◌≡◌, ◌≤◌, ℕ, length, IfOk};
+ghost use Rattle.core_syntax.specs.Refine.{ty_of};
 ghost use Rattle.machine.specs.Answers.{Answers};
-ghost use Rattle.remora_driver.specs.Due.{IsCodeDue, IsRunDue, IsBuildDue, IsExecDue, IsJobDue};
-ghost use Rattle.remora_driver.specs.Jobs.{longest, longest_source, longest_code};
+ghost use Rattle.remora_driver.specs.Due.{accepted, IsCodeDue, IsCheckDue, IsRunDue, IsBuildDue, IsExecDue, IsJobDue};
+ghost use Rattle.remora_driver.specs.Jobs.{longest, longest_code};
 ghost use Rattle.remora_driver.specs.Sources.{seen, told};
 
-use crate::answer::{Answer, FRONT, NOT_BUILT, refusal, shown_array, still_running, stuck, trap};
+use crate::answer::{
+    Answer, FRONT, NOT_BUILT, refusal, shown_array, still_running, stuck, trap, type_answer,
+};
 use crate::compiling::compile;
-use crate::errors::CompileError;
+use crate::errors::SourceRefusal;
 use crate::job::Job;
+use crate::source::check_source;
 use crate::status::Status;
 use code_text::{Code, CodeRefusal, parse, print};
-use core_syntax::Memory;
+use core_syntax::{Checked, Memory};
 use machine::{Outcome, load};
 use std::alloc::Global;
 
@@ -45,14 +49,30 @@ fn run_code(alloc: Global, code: &Code, budget: u64) -> Result<Answer, Memory>
     outcome_answer(alloc, outcome)
 }
 
+// The answer that shows the type of a checked program's body.
+fn checked_answer(alloc: Global, checked: &Checked) -> Result<Answer, Memory>
+    ensures { IfOk result (λ a. seen a ≡ accepted (ty_of checked.now.body)) }
+{
+    type_answer(alloc, checked.result())
+}
+
+fn check(alloc: Global, source: &[u8]) -> Result<Answer, Memory>
+    ensures { IfOk result (λ a. IsCheckDue source.now (seen a)) }
+{
+    match check_source(alloc, source) {
+        Ok(checked) => checked_answer(alloc, &checked),
+        Err(SourceRefusal::Refused { number, span }) => refusal(alloc, number, span),
+        Err(SourceRefusal::Memory) => Err(Memory),
+    }
+}
+
 fn run(alloc: Global, source: &[u8], budget: u64) -> Result<Answer, Memory>
-    requires { length source.now ≤ longest_source }
     ensures { IfOk result (λ a. IsRunDue source.now budget (seen a)) }
 {
     match compile(alloc, source) {
         Ok(code) => run_code(alloc, &code, budget),
-        Err(CompileError::Refused { number, span }) => refusal(alloc, number, span),
-        Err(CompileError::Memory) => Err(Memory),
+        Err(SourceRefusal::Refused { number, span }) => refusal(alloc, number, span),
+        Err(SourceRefusal::Memory) => Err(Memory),
     }
 }
 
@@ -68,13 +88,12 @@ fn code_answer(alloc: Global, code: &Code) -> Result<Answer, Memory>
 }
 
 fn build(alloc: Global, source: &[u8]) -> Result<Answer, Memory>
-    requires { length source.now ≤ longest_source }
     ensures { IfOk result (λ a. IsBuildDue source.now (seen a)) }
 {
     match compile(alloc, source) {
         Ok(code) => code_answer(alloc, &code),
-        Err(CompileError::Refused { number, span }) => refusal(alloc, number, span),
-        Err(CompileError::Memory) => Err(Memory),
+        Err(SourceRefusal::Refused { number, span }) => refusal(alloc, number, span),
+        Err(SourceRefusal::Memory) => Err(Memory),
     }
 }
 
@@ -95,8 +114,9 @@ pub fn answer_to(alloc: Global, job: Job, bytes: &[u8]) -> Result<Answer, Memory
     ensures { IfOk result (λ a. IsJobDue job bytes.now (seen a)) }
 {
     match job {
-        Job::Run { budget } => run(alloc, bytes, budget),
+        Job::Check => check(alloc, bytes),
         Job::Build => build(alloc, bytes),
+        Job::Run { budget } => run(alloc, bytes, budget),
         Job::Exec { budget } => exec(alloc, bytes, budget),
     }
 }

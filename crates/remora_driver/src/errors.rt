@@ -2,11 +2,13 @@ use core_syntax::Span;
 use std::alloc::{AllocError, AllocFailed};
 use thiserror::Error;
 
-/// Why a program source has no code: it is refused with this number at this place, or there was no memory.
+/// Why a program source has no checked program or no code.
 #[derive(Clone, Copy, Debug, PartialEq, Eq, Error)]
-pub enum CompileError {
+pub enum SourceRefusal {
+    /// It is refused with this number at this place (docs/LANGUAGE.md, "Refusals").
     #[error("refused {number} {}:{}", .span.line, .span.col)]
     Refused { number: u8, span: Span },
+    /// There was no memory.
     #[error("no memory")]
     Memory,
 }

@@ -14,13 +14,14 @@ const MOST_DIGITS: usize = 10;
 /// What the words ask for, by docs/LANGUAGE.md, "Calls". A budget is the number of steps that the machine may do.
 #[derive(Clone, Copy, Debug, PartialEq, Eq)]
 pub enum Job {
-    Run { budget: u64 },
+    Check,
     Build,
+    Run { budget: u64 },
     Exec { budget: u64 },
 }
 
 /// The most bytes of a program source.
-const LONGEST_SOURCE: usize = 1 << 20;
+pub const LONGEST_SOURCE: usize = 1 << 20;
 
 /// The most bytes of a code text.
 const LONGEST_CODE: usize = 1 << 24;
@@ -31,7 +32,7 @@ impl Job {
         ensures { result ≡ longest_of self.now }
     {
         match self {
-            Job::Run { .. } | Job::Build => LONGEST_SOURCE,
+            Job::Check | Job::Build | Job::Run { .. } => LONGEST_SOURCE,
             Job::Exec { .. } => LONGEST_CODE,
         }
     }
@@ -63,6 +64,7 @@ fn plain_job(command: &str) -> Option<Job>
     ensures { result ≡ plain_job_of command.now }
 {
     match command {
+        "check" => Some(Job::Check),
         "build" => Some(Job::Build),
         _ => limited_job(command, USUAL_BUDGET),
     }

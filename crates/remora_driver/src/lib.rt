@@ -11,13 +11,14 @@ mod fragment;
 mod job;
 mod laws;
 mod lowering;
-mod shapes;
 mod source;
 mod status;
 mod texts;
 mod top;
 
+pub use errors::SourceRefusal;
 pub use laws::one_answer;
+pub use source::check_source;
 pub use status::Status;
 pub use top::remora;
 

@@ -1,4 +1,4 @@
-use crate::{Status, remora};
+use crate::{SourceRefusal, Status, check_source, remora};
 use core_syntax::{Span, StuckKind, TrapKind};
 use rem_base::{MemSink, MemSource, SureSource};
 use std::alloc::Global;
@@ -80,7 +80,7 @@ fn runs_programs(rt: HostRuntime) -> Result<(), Fail> {
     Ok(())
 }
 
-// A source that is refused with this number at this place.
+// A source that each command refuses with this number at this place.
 fn refuses(
     rt: &impl Abort,
     alloc: Global,
@@ -91,6 +91,7 @@ fn refuses(
 ) -> Result<(), Fail> {
     let line = format!(in alloc; "refused {number} {}:{}\n", place.0, place.1)?;
     let status = refused(number, bytes, place);
+    calls(rt, alloc, &["check", "f"], program, status, line.as_bytes())?;
     calls(rt, alloc, &["run", "f"], program, status, line.as_bytes())?;
     calls(rt, alloc, &["build", "f"], program, status, line.as_bytes())
 }
@@ -122,6 +123,91 @@ fn refuses_sources(rt: HostRuntime) -> Result<(), Fail> {
         (b"(main () (array (2) 1))", 10, (9, 22), (1, 10)),
         (b"(main () (array (4294967296) 1))", 11, (17, 27), (1, 18)),
         (b"(main () (div 1 y))", 8, (16, 17), (1, 17)),
+    ];
+    for (program, number, bytes, place) in cases {
+        refuses(&rt, alloc, program, number, bytes, place)?;
+    }
+    Ok(())
+}
+
+#[test]
+fn refuses_what_is_ill_typed(rt: HostRuntime) -> Result<(), Fail> {
+    let alloc = rt.alloc();
+    let cases = [
+        (
+            b"(main ((x (A Int (shape 1099511627777)))) 1)".as_slice(),
+            13,
+            (10, 39),
+            (1, 11),
+        ),
+        (
+            b"(main () ((i-app iota 1099511627777) (array (1) 1)))",
+            13,
+            (22, 35),
+            (1, 23),
+        ),
+        (
+            b"(main ((x (Sigma ((s Shape)) (A Int (shape (+ (+ s) s)))))) 1)",
+            14,
+            (52, 53),
+            (1, 53),
+        ),
+        (
+            b"(main () (i-app (ifn ((s Shape)) 1) (+ (shape))))",
+            14,
+            (39, 46),
+            (1, 40),
+        ),
+        (
+            b"(main () (i-app (ifn ((s Shape)) 1) 2))",
+            14,
+            (36, 37),
+            (1, 37),
+        ),
+        (
+            b"(main ((f (-> ((A Int 1)) Int))) 1)",
+            14,
+            (22, 23),
+            (1, 23),
+        ),
+        (
+            b"(main () (t-app (tfn (t) 1) (A (A Int (shape)) (shape))))",
+            15,
+            (28, 55),
+            (1, 29),
+        ),
+        (
+            b"(main () (t-app (tfn (t) 1) (A Int 1)))",
+            15,
+            (28, 37),
+            (1, 29),
+        ),
+        (
+            b"(main ((x (A (A Int (shape)) (shape)))) 1)",
+            15,
+            (13, 28),
+            (1, 14),
+        ),
+        (b"(main () (array (2) 1 #t))", 17, (22, 24), (1, 23)),
+        (b"(main () (array (3) 1 2 +))", 17, (24, 25), (1, 25)),
+        (
+            b"(main () (frame (2) (array (1) 1) (array (2) 1 2)))",
+            18,
+            (34, 49),
+            (1, 35),
+        ),
+        (b"(main () (frame (2) 1 #t))", 18, (22, 24), (1, 23)),
+        (b"(main () (1 2))", 19, (10, 11), (1, 11)),
+        (b"(main () ((array (2) 1 2) 3))", 19, (10, 25), (1, 11)),
+        (b"(main () (+ 1))", 20, (9, 14), (1, 10)),
+        (b"(main () (t-app (tfn (t u) 1) Int))", 20, (9, 34), (1, 10)),
+        (b"(main () (+ 1 #t))", 21, (14, 16), (1, 15)),
+        (
+            b"(main () ((fn ((x (A Int (shape 2)))) Int 1) (array (3) 1 2 3)))",
+            21,
+            (45, 62),
+            (1, 46),
+        ),
         (
             b"(main () (+ (array (2) 1 2) (array (3) 1 2 3)))",
             22,
@@ -134,6 +220,65 @@ fn refuses_sources(rt: HostRuntime) -> Result<(), Fail> {
             (14, 51),
             (1, 15),
         ),
+        (b"(main () (t-app 1 Int))", 23, (16, 17), (1, 17)),
+        (b"(main () (t-app + Int))", 23, (16, 17), (1, 17)),
+        (b"(main () (i-app 1 2))", 24, (16, 17), (1, 17)),
+        (b"(main () (i-app append 2))", 24, (16, 22), (1, 17)),
+        (b"(main () (unbox (d v 5) Int 1))", 25, (21, 22), (1, 22)),
+        (b"(main () (box (1) 1 Int))", 25, (20, 23), (1, 21)),
+        (
+            b"(main () (box (2) (array (1) 1) (Sigma ((d Dim)) (A Int (shape d)))))",
+            26,
+            (18, 31),
+            (1, 19),
+        ),
+        (
+            b"(main () (box (2) #t (Sigma ((d Dim)) Int)))",
+            26,
+            (18, 20),
+            (1, 19),
+        ),
+        (
+            b"(main () ((i-app (ifn ((m Dim) (n Dim))\n (fn ((a (A Int (shape m))) (b (A Int (shape n))))\n (A Int (shape (+ m m)))\n ((i-app (t-app append Int) m n (shape)) a b))) 2 3)\n (array (2) 1 2) (array (3) 3 4 5)))",
+            27,
+            (92, 115),
+            (3, 2),
+        ),
+        (
+            b"(main () ((fn ((x Int)) Bool x) 1))",
+            27,
+            (24, 28),
+            (1, 25),
+        ),
+        (
+            b"(main ((b (Sigma ((d Dim)) Int))) (unbox (d x b) Bool x))",
+            27,
+            (49, 53),
+            (1, 50),
+        ),
+        (
+            b"(main ((b (Sigma ((d Dim)) (A Int (shape d))))) (i-app (ifn ((n Dim)) (unbox (d v b) (A Int (shape n)) v)) 2))",
+            27,
+            (85, 102),
+            (1, 86),
+        ),
+        (
+            b"(define x Int (+ 1 2))\n(main () x)",
+            28,
+            (14, 21),
+            (1, 15),
+        ),
+        (
+            b"(define b (Sigma ((d Dim)) Int) (box (1) 1 (Sigma ((d Dim)) Int)))\n(main () 1)",
+            28,
+            (32, 65),
+            (1, 33),
+        ),
+        (b"(main ((f (-> (Int) Int))) 1)", 29, (10, 24), (1, 11)),
+        (b"(main ((x (Forall (t) Int))) 1)", 29, (10, 26), (1, 11)),
+        (b"(main () +)", 30, (9, 10), (1, 10)),
+        (b"(main () (fn ((x Int)) Int x))", 30, (9, 29), (1, 10)),
+        (b"(main () (tfn (t) 1))", 30, (9, 20), (1, 10)),
     ];
     for (program, number, bytes, place) in cases {
         refuses(&rt, alloc, program, number, bytes, place)?;
@@ -141,26 +286,167 @@ fn refuses_sources(rt: HostRuntime) -> Result<(), Fail> {
     Ok(())
 }
 
+// A program with a shape of so many ones.
+fn wide(alloc: Global, before: &[u8], ones: usize, after: &[u8]) -> Result<Vec<u8>, Fail> {
+    let mut program = before.to_vec(alloc)?;
+    for _ in 0..ones {
+        program.extend_from_slice(b" 1")?;
+    }
+    program.extend_from_slice(after)?;
+    Ok(program)
+}
+
+#[test]
+fn check_source_refuses(rt: HostRuntime) -> Result<(), Fail> {
+    let alloc = rt.alloc();
+    let source = b"(main () (+ (array (2) 1 2) (array (3) 1 2 3)))";
+    let span = Span {
+        from: 9,
+        to: 46,
+        line: 1,
+        col: 10,
+    };
+    match check_source(alloc, source) {
+        Ok(_) => assert!(rt; false),
+        Err(refusal) => assert_eq!(rt; refusal, SourceRefusal::Refused { number: 22, span }),
+    }
+    Ok(())
+}
+
+#[test]
+fn refuses_what_is_too_large(rt: HostRuntime) -> Result<(), Fail> {
+    let alloc = rt.alloc();
+    let wide_type = wide(alloc, b"(main ((x (A Int (shape", 16382, b")))) 1)")?;
+    refuses(&rt, alloc, wide_type.as_slice(), 16, (10, 32789), (1, 11))?;
+    let wide_index = wide(
+        alloc,
+        b"(main () (i-app (ifn ((s Shape)) 1) (shape",
+        16384,
+        b")))",
+    )?;
+    refuses(&rt, alloc, wide_index.as_slice(), 16, (36, 32811), (1, 37))?;
+    let widest = wide(
+        alloc,
+        b"(main () (i-app (ifn ((s Shape)) 1) (shape",
+        16383,
+        b")))",
+    )?;
+    calls(
+        &rt,
+        alloc,
+        &["check", "f"],
+        widest.as_slice(),
+        Status::Ok,
+        b"ok (A Int (shape))\n",
+    )
+}
+
+#[test]
+fn checks_programs(rt: HostRuntime) -> Result<(), Fail> {
+    let alloc = rt.alloc();
+    let cases = [
+        (
+            b"(main () (+ 1 2))".as_slice(),
+            b"ok (A Int (shape))\n".as_slice(),
+        ),
+        (
+            b"(main () (+ (array (2 3) 1 2 3 4 5 6) (array (2) 10 20)))",
+            b"ok (A Int (shape 2 3))\n",
+        ),
+        (
+            b"(main () (+ (array (0 3) Int) 5))",
+            b"ok (A Int (shape 0 3))\n",
+        ),
+        (
+            b"(main () ((array (2) + *) (array (2) 3 4) 5))",
+            b"ok (A Int (shape 2))\n",
+        ),
+        (
+            b"(main () ((fn ((v (A Int (shape 3)))) Int ((i-app (t-app reduce Int) 2 (shape)) + v)) (array (2 3) 1 2 3 4 5 6)))",
+            b"ok (A Int (shape 2))\n",
+        ),
+        (
+            b"(main () ((fn ((x Int)) (A Int (shape 2)) (frame (2) x x)) (array (0) Int)))",
+            b"ok (A Int (shape 0 2))\n",
+        ),
+        (
+            b"(main () ((i-app (ifn ((m Dim) (n Dim))\n (fn ((a (A Int (shape m))) (b (A Int (shape n))))\n (A Int (shape (+ n m)))\n ((i-app (t-app append Int) m n (shape)) a b))) 2 3)\n (array (2) 1 2) (array (3) 3 4 5)))",
+            b"ok (A Int (shape 5))\n",
+        ),
+        (
+            b"(main () (unbox (d x ((i-app (t-app ravel Int) (shape)) 5))\n Int ((i-app (t-app length Int) d (shape)) x)))",
+            b"ok (A Int (shape))\n",
+        ),
+        (
+            b"(main () ((i-app iota 2) (array (2) 2 2)))",
+            b"ok (A (Sigma ((i0 Shape)) (A Int i0)) (shape))\n",
+        ),
+        (
+            b"(main () ((i-app iota 1) (array (1) -1)))",
+            b"ok (A (Sigma ((i0 Shape)) (A Int i0)) (shape))\n",
+        ),
+        (
+            b"(main ((x (A Int (shape 4294967295 0)))) ((fn ((v (A Int (shape 0)))) Int 1) x))",
+            b"ok (A Int (shape 4294967295))\n",
+        ),
+        (
+            b"(main () ((i-app (i-app (ifn ((n Dim)) (i-app (ifn ((m Dim)) (ifn ((n Dim)) (fn ((a (A Int (shape m n)))) (A Int (shape m n)) a))) n)) 2) 3) (array (2 3) 1 2 3 4 5 6)))",
+            b"ok (A Int (shape 2 3))\n",
+        ),
+        (
+            b"(main () (t-app ((t-app select (Forall (t) Int)) #t (tfn (t) 1) (tfn (t) (div 1 0))) Int))",
+            b"ok (A Int (shape))\n",
+        ),
+        (
+            b"; each row of m times v\n(define dot (-> ((A Int (shape 3)) (A Int (shape 3))) Int)\n (fn ((a (A Int (shape 3))) (b (A Int (shape 3)))) Int\n  ((i-app (t-app reduce Int) 2 (shape)) + (* a b))))\n(main ((m (A Int (shape 2 3))) (v (A Int (shape 3)))) (dot m v))",
+            b"ok (A Int (shape 2))\n",
+        ),
+        (
+            b"(main ((b (Sigma ((d Dim)) (A Int (shape d))))) (unbox (d v b) Int ((i-app (t-app length Int) d (shape)) v)))",
+            b"ok (A Int (shape))\n",
+        ),
+        (
+            b"(main ((x (A Int (shape 1099511627776)))) 1)",
+            b"ok (A Int (shape))\n",
+        ),
+        (
+            b"(main () (frame (0 2) (A Int (shape 3))))",
+            b"ok (A Int (shape 0 2 3))\n",
+        ),
+        (
+            b"(main () (box (2) (array (2) 1 2) (Sigma ((d Dim)) (A Int (shape d)))))",
+            b"ok (A (Sigma ((i0 Dim)) (A Int (shape i0))) (shape))\n",
+        ),
+        (b"(main () #\\a)", b"ok (A Char (shape))\n"),
+        (b"(main () \"ab\")", b"ok (A Char (shape 2))\n"),
+        (b"(main () \"\")", b"ok (A Char (shape 0))\n"),
+        (b"(main () #t)", b"ok (A Bool (shape))\n"),
+    ];
+    for (program, text) in cases {
+        calls(&rt, alloc, &["check", "f"], program, Status::Ok, text)?;
+    }
+    Ok(())
+}
+
+const NOT_BUILT: &[u8] = b"refused 90 1:1\n";
+
 #[test]
 fn refuses_what_is_not_built(rt: HostRuntime) -> Result<(), Fail> {
     let alloc = rt.alloc();
+    let status = refused(90, (0, 0), (1, 1));
     let cases = [
         b"(main () #t)".as_slice(),
-        b"(main () +)",
         b"(main () \"ab\")",
         b"(main () (array (0) Int))",
         b"(main () (frame (2) 1 2))",
-        b"(main () (+ 1))",
-        b"(main () (+ 1 2 3))",
         b"(main () (div 4 2))",
         b"(main () ((array (1) +) 1 2))",
-        b"(main () (1 2 3))",
-        b"(main () (+ (array (2) 1 2) (+ (array (3) 1 2 3) #t)))",
         b"(main ((x Int)) 1)",
         b"(define x Int 1) (main () 1)",
     ];
     for program in cases {
-        refuses(&rt, alloc, program, 90, (0, 0), (1, 1))?;
+        calls(&rt, alloc, &["run", "f"], program, status, NOT_BUILT)?;
+        calls(&rt, alloc, &["build", "f"], program, status, NOT_BUILT)?;
     }
     Ok(())
 }
@@ -280,14 +566,17 @@ fn other_words_are_no_call(rt: HostRuntime) -> Result<(), Fail> {
             USAGE,
         )?;
     }
-    calls(
-        &rt,
-        alloc,
-        &["build", "f", "--steps", "7"],
-        ADD,
-        Status::Usage,
-        USAGE,
-    )
+    for command in ["check", "build"] {
+        calls(
+            &rt,
+            alloc,
+            &[command, "f", "--steps", "7"],
+            ADD,
+            Status::Usage,
+            USAGE,
+        )?;
+    }
+    Ok(())
 }
 
 #[test]

@@ -1,13 +1,16 @@
 // The texts that the commands write.
-ghost use Rattle.std.specs.Prelude.{◌≡◌, ◌++◌, ◌∷◌, OnOk, IfOk, string_bytes, flat_map};
+ghost use Rattle.std.specs.Prelude.{◌≡◌, ◌++◌, ◌∷◌, OnOk, IfOk, codes, string_bytes, flat_map};
 ghost use Rattle.std.specs.Fmt.{decimal};
 ghost use Rattle.array_values.specs.Lent.{value_of, IsLent};
-ghost use Rattle.remora_driver.specs.Texts.{line, dims_text, atom_text, array_text, refusal_text, trap_text, stuck_text, still_running_text, usage_text};
+ghost use Rattle.core_syntax.specs.NormTypes.{ty_text};
+ghost use Rattle.core_syntax.specs.Refine.{ty_of};
+ghost use Rattle.remora_driver.specs.Texts.{line, dims_text, atom_text, array_text, accepted_text, refusal_text, trap_text, stuck_text, still_running_text, usage_text};
 
 use array_values::{Array, ValueRef};
-use core_syntax::{Span, StuckKind, TrapKind};
+use core_syntax::{Memory, Span, StuckKind, TrapKind, Ty};
 use std::alloc::{AllocError, Global};
 use std::fmt::Write;
+use type_equal::{NormType, normal, show_type};
 
 // Numbers, each behind a space.
 fn put_more_dims(out: &mut String, dims: &[u32]) -> Result<(), AllocError>
@@ -64,6 +67,27 @@ pub fn array_line(alloc: Global, array: &Array) -> Result<String, AllocError>
     put_atoms(&mut out, array)?;
     out.push_str(")\n")?;
     Ok(out)
+}
+
+// The line of a normal type.
+fn normal_line(alloc: Global, ty: &NormType) -> Result<Vec<u8>, Memory>
+    ensures { IfOk result (λ text. text.items ≡ line (codes "ok " ++ ty_text (ty_of ty.now))) }
+{
+    let shown = show_type(alloc, ty)?;
+    let mut out = b"ok ".to_vec(alloc)?;
+    out.extend_from_slice(shown.as_slice())?;
+    out.push(b'\n')?;
+    Ok(out)
+}
+
+/// The line of a type, which is measured: that its normal form isn't had can only be for want of memory.
+pub fn type_line(alloc: Global, ty: &Ty) -> Result<Vec<u8>, Memory>
+    ensures { IfOk result (λ text. text.items ≡ line (accepted_text (ty_of ty.now))) }
+{
+    match normal(alloc, ty) {
+        Ok(normal) => normal_line(alloc, &normal),
+        Err(_) => Err(Memory),
+    }
 }
 
 /// The line of a refusal.
