@@ -1,4 +1,5 @@
 mod IndexRows
+pub mod RowsOfTerms
 pub mod ExprRows
 pub mod LinearLemmas
 pub mod NormLemmas

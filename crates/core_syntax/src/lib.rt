@@ -9,9 +9,11 @@ mod index;
 mod limits;
 mod norm;
 mod note;
+mod parts;
 mod primitive;
 mod program;
 mod span;
+mod term;
 mod ty;
 
 pub use checked::Checked;
@@ -24,7 +26,9 @@ pub use norm::{
     Coef, LARGEST_DEPTH, LARGEST_NUMBER, LARGEST_SIZE, Letter, NormDim, NormIndex, NormShape,
 };
 pub use note::Note;
+pub use parts::{Part, Parts};
 pub use primitive::Primitive;
 pub use program::Program;
 pub use span::Span;
+pub use term::{TermAtom, TermExpr};
 pub use ty::{Base, Kind, Ty, TyForm};
