@@ -1,1 +1,3 @@
+pub mod array
+pub mod list
 pub mod shared

@@ -1,9 +1,10 @@
 // Arrays, whose copies share their atoms.
-ghost use Rattle.std.specs.Prelude.{◌≡◌, ◌<◌, ◌↔◌, length, slice_get, Some, IfOk, IsErrOf, IsTrue, vec_len};
+ghost use Rattle.std.specs.Prelude.{◌≡◌, ◌<◌, ◌↔◌, length, slice_get, Some, IfOk, IfSome, IsErrOf, IsTrue, vec_len};
 ghost use Rattle.array_values.specs.Arrays.{IsArray};
 ghost use Rattle.array_values.specs.Forms.{Forms, cells};
 ghost use Rattle.array_values.specs.Lent.{value_of, IsLent};
 
+use crate::list::List;
 use crate::shared::Shared;
 use crate::value::{Value, ValueRef};
 use core_syntax::Memory;
@@ -20,33 +21,51 @@ const TOO_MANY: u64 = (1 << 24) + 1;
 
 /// An array: its dims, and its atoms in row-major order. Copies share both.
 #[derive(Drop)]
-pub struct Array {
+pub struct ArrayOf<V> {
     dims: Shared<Items<u32>>,
-    atoms: Shared<Items<Value>>,
+    atoms: Shared<List<V>>,
 }
 
-impl Model for Array {
-    ghost use Rattle.array_values.specs.declared.value.Value.{Value as Atom};
-    ghost use Rattle.array_values.specs.Arrays.{Arrayed, IsArray};
+/// An array of atoms.
+pub type Array = ArrayOf<Value>;
 
-    ghost Value = { Arrayed Atom };
+impl<V> Model for ArrayOf<V> {
+    ghost use Rattle.array_values.specs.Arrays.{Arrayed, IsArray};
+    ghost use Rattle.array_values.specs.Coded.{arrayed_code};
+
+    ghost Value = { Arrayed V };
+
+    ghost coded = { arrayed_code V.code };
 
     ghost view = { λ a. record { dims = a.dims; atoms = a.atoms } };
 
     ghost invariant = { λ a. IsArray (record { dims = a.dims; atoms = a.atoms }) };
 }
 
-impl Array {
+impl<V> ArrayOf<V> {
+    // The atoms, if this was their last owner.
+    pub(crate) fn into_atoms(self) -> Option<Vec<V>>
+        ensures { IfSome result (λ atoms. atoms.items ≡ self.atoms) }
+    {
+        let ArrayOf { dims: _dims, atoms } = self;
+        match atoms.into_inner() {
+            Some(list) => Some(list.into_vec()),
+            None => None,
+        }
+    }
+}
+
+impl<V: Drop> ArrayOf<V> {
     /// The array with these dims, which an array may have, and as many atoms as their product. It answers `Memory`
     /// where there is none.
-    pub fn new(alloc: Global, dims: &[u32], atoms: Vec<Value>) -> Result<Array, Memory>
+    pub fn new(alloc: Global, dims: &[u32], atoms: Vec<V>) -> Result<ArrayOf<V>, Memory>
         requires forms { Forms dims.now }
         requires full { vec_len atoms ≡ cells dims.now }
         ensures { IfOk result (λ array. array ≡ record { dims = dims.now; atoms = atoms.items }) }
     {
-        Ok(Array {
+        Ok(ArrayOf {
             dims: Shared::new(alloc, Items::from_slice(alloc, dims)?)?,
-            atoms: Shared::new(alloc, Items::from_vec(atoms))?,
+            atoms: Shared::new(alloc, List::of(atoms))?,
         })
     }
 
@@ -66,6 +85,18 @@ impl Array {
         self.atoms.get().len()
     }
 
+    /// The same array. No atom is copied. It answers `Memory` where there is none.
+    pub fn copy(&self, _alloc: Global) -> Result<ArrayOf<V>, Memory>
+        ensures { IfOk result (λ array. array ≡ self.now) }
+    {
+        Ok(ArrayOf {
+            dims: self.dims.share()?,
+            atoms: self.atoms.share()?,
+        })
+    }
+}
+
+impl ArrayOf<Value> {
     /// The atom at this place in row-major order.
     pub fn atom_at(&self, place: usize) -> ValueRef<'_>
         requires { place < length self.now.atoms }
@@ -74,18 +105,10 @@ impl Array {
     {
         match &self.atoms.get().as_slice()[place] {
             Value::Int(n) => ValueRef::Int(*n),
+            Value::Bool(b) => ValueRef::Bool(*b),
+            Value::Char(c) => ValueRef::Char(*c),
             other => ValueRef::Other(other),
         }
-    }
-
-    /// The same array. No atom is copied. It answers `Memory` where there is none.
-    pub fn copy(&self, _alloc: Global) -> Result<Array, Memory>
-        ensures { IfOk result (λ array. array ≡ self.now) }
-    {
-        Ok(Array {
-            dims: self.dims.share()?,
-            atoms: self.atoms.share()?,
-        })
     }
 }
 
@@ -108,7 +131,7 @@ pub fn make(alloc: Global, dims: &[u32], atoms: Vec<Value>) -> Result<Array, Mak
     if !forms(dims) {
         return Err(MakeRefusal::TooBig);
     }
-    match Array::new(alloc, dims, atoms) {
+    match ArrayOf::new(alloc, dims, atoms) {
         Ok(array) => Ok(array),
         Err(Memory) => Err(MakeRefusal::Memory),
     }

@@ -2,9 +2,14 @@
 #![tactic(auto)]
 
 mod array;
+mod index_value;
+mod list;
 mod shared;
+#[cfg(test)]
+mod tests;
 mod value;
 
-pub use array::{Array, MakeRefusal, forms, make};
+pub use array::{Array, ArrayOf, MakeRefusal, forms, make};
+pub use index_value::IndexValue;
 pub use shared::Shared;
-pub use value::{Value, ValueRef};
+pub use value::{BoxedValue, Value, ValueRef};

@@ -8,7 +8,7 @@ use Rattle.core_syntax.specs.declared.primitive.Primitive.{Primitive}
 use Rattle.core_syntax.specs.declared.primitive.Primitive.TheVariants.{Add, Sub, Mul}
 use Rattle.array_values.specs.declared.value.Value.{Value}
 use Rattle.array_values.specs.declared.value.Value.TheVariants as atom
-use Rattle.array_values.specs.declared.array.Array.{Array}
+use Rattle.array_values.specs.Values.{Array}
 use Rattle.array_values.specs.Forms.{cells, formed}
 use Rattle.array_values.specs.Arrays.{scalar, spread, collapse, greatest, same_dims}
 use Rattle.code_text.specs.declared.code.Literal.{Literal}
@@ -78,7 +78,7 @@ of_arguments p arguments = Refuses stuck.Operand
 -- an atom on arrays, which are scalars
 abbrev pub apply : Value → List Array → Answer
 apply (atom.Prim p) arguments = of_arguments p arguments
-apply (atom.Int z) arguments = Refuses stuck.Kind
+apply _ arguments = Refuses stuck.Kind
 
 -- ---- results
 

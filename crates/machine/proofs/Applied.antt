@@ -1,9 +1,9 @@
 -- What an atom gives for the cells at a place of a map.
-use Rattle.std.proofs.Common.{◌≡◌, ℕ, ◌<◌, List, [], ◌∷◌, length, map, Some, slice_get, get_or, ap, sym, subst, ◌∙◌, refl, arith}
+use Rattle.std.proofs.Common.{◌≡◌, ℕ, ◌<◌, List, [], ◌∷◌, length, map, Some, slice_get, get_or, ap, sym, subst, ◌∙◌, refl, arith, ◌⊎◌, inl, inr}
 use Rattle.std.specs.Option.{option_map}
 use Rattle.core_syntax.specs.declared.errors.StuckKind.TheVariants as stuck
 use Rattle.core_syntax.specs.declared.primitive.Primitive.{Primitive}
-use Rattle.array_values.specs.declared.array.Array.{Array}
+use Rattle.array_values.specs.Values.{Array}
 use Rattle.array_values.specs.declared.value.Value.{Value}
 use Rattle.array_values.specs.declared.value.Value.TheVariants as atom
 use Rattle.array_values.specs.Arrays.{scalar, spread}
@@ -19,9 +19,9 @@ module _ (frame : List ℕ) (count : ℕ) (function : Array) (arguments : List A
   gives f vs answer e are is =
       ap (option_map (λ p. apply p.function p.arguments)) (place_at frame count place function arguments f vs w.count_is lt e are) ∙ ap (λ (a : Answer). Some a) is
 
-  -- an integer is no function
-  pub on_integer : (f : Value) (z : _) → slice_get (spread frame function) place ≡ Some f → f ≡ atom.Int z → option_map (λ p. apply p.function p.arguments) (slice_get (places frame function arguments) place) ≡ Some (Refuses stuck.Kind)
-  on_integer f z e is = gives f has.atoms (Refuses stuck.Kind) e has.are (ap (λ (g : Value). apply g (map scalar has.atoms)) is)
+  -- what is no primitive isn't applied
+  pub on_no_function : (f : Value) → slice_get (spread frame function) place ≡ Some f → ((as' : List Array) → apply f as' ≡ Refuses stuck.Kind) → option_map (λ p. apply p.function p.arguments) (slice_get (places frame function arguments) place) ≡ Some (Refuses stuck.Kind)
+  on_no_function f e none = gives f has.atoms (Refuses stuck.Kind) e has.are (none (map scalar has.atoms))
 
   -- a primitive takes two arguments
   pub on_others : (f : Value) (p : Primitive) → slice_get (spread frame function) place ≡ Some f → f ≡ atom.Prim p → (length arguments ≡ 2 → ⊥) → option_map (λ p. apply p.function p.arguments) (slice_get (places frame function arguments) place) ≡ Some (Refuses stuck.Operand)
@@ -49,3 +49,7 @@ two_items [] a b n p q = absurd (omega (arith, n))
 two_items (x ∷ []) a b n p q = absurd (omega (arith, n))
 two_items (x ∷ (y ∷ [])) a b n p q = ap (λ (z : Array). z ∷ y ∷ []) (sym p) ∙ ap (λ (z : Array). a ∷ z ∷ []) (sym q)
 two_items (x ∷ (y ∷ (z ∷ l))) a b n p q = absurd (omega (arith, n))
+
+pub not_two : (l k : List Array) → k ≡ l → (length k < 2) ⊎ (2 < length k) → length l ≡ 2 → ⊥
+not_two l k e (inl below) n = omega (arith, below, ap length e, n)
+not_two l k e (inr above) n = omega (arith, above, ap length e, n)

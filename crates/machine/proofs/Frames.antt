@@ -6,7 +6,7 @@ use Rattle.std.proofs.lemmas.Bool.Decides.{Decides-eqb}
 use Rattle.std.proofs.lemmas.List.{append-nil, nil_from_length}
 use Rattle.std.proofs.lemmas.Slice.Eq.{starts_is}
 use Rattle.std.proofs.Math.Nat.{mul_assoc}
-use Rattle.array_values.specs.declared.array.Array.{Array}
+use Rattle.array_values.specs.Values.{Array}
 use Rattle.array_values.specs.Forms.{cells}
 use Rattle.array_values.specs.Arrays.{is_prefix, all_prefixes, greatest_of, greatest}
 use Rattle.machine.specs.Frames.{greatest_array}

@@ -3,7 +3,7 @@ use Rattle.std.proofs.Common.{◌≡◌, ℕ, ◌+◌, ◌<◌, ◌≤◌, List,
 use Rattle.std.specs.List.{All}
 use Rattle.std.proofs.lemmas.List.{drop_all, take_all, take_more}
 use Rattle.std.proofs.lemmas.List.Elements.{All-push}
-use Rattle.array_values.specs.declared.array.Array.{Array}
+use Rattle.array_values.specs.Values.{Array}
 use Rattle.array_values.specs.Arrays.{IsArray}
 use Rattle.machine.specs.Frames.{greater, greatest_array}
 

@@ -2,7 +2,7 @@
 use Rattle.std.proofs.Common.{◌≡◌, ℕ, zero, suc, ◌+◌, ◌-◌, ◌<◌, ◌≤◌, List, [], ◌∷◌, ◌++◌, length, take, drop, reverse, Option, Some, None, ap, sym, ◌∙◌, refl, arith, take-append-drop, append_assoc, map}
 use Rattle.std.proofs.lemmas.List.{reverse-append, length-reverse, append-nil, length-drop}
 use Rattle.core_syntax.specs.declared.errors.StuckKind.TheVariants as stuck
-use Rattle.array_values.specs.declared.array.Array.{Array}
+use Rattle.array_values.specs.Values.{Array}
 use Rattle.code_text.specs.declared.code.Instr.{Instr}
 use Rattle.code_text.specs.Machine.{State, Stops, Stuck, pop, applied, over_greatest}
 use Rattle.array_values.specs.Arrays.{greatest}

@@ -4,7 +4,7 @@ use Rattle.std.proofs.lemmas.Option.{none-some}
 use Rattle.code_text.specs.declared.code.Block.{Block}
 use Rattle.core_syntax.specs.declared.errors.TrapKind.{TrapKind}
 use Rattle.core_syntax.specs.declared.errors.StuckKind.{StuckKind}
-use Rattle.array_values.specs.declared.array.Array.{Array}
+use Rattle.array_values.specs.Values.{Array}
 use Rattle.code_text.specs.Machine.{State, Next, Goes, Stops, Done, Trap, Stuck, step}
 use Rattle.code_text.specs.Machine as table
 use Rattle.code_text.specs.Ends.{from, start, after, GoesOn}

@@ -8,7 +8,7 @@ use Rattle.std.proofs.lemmas.List.{length-replicate, drop_all}
 use Rattle.std.proofs.lemmas.List.Elements.{All-head, All-tail}
 use Rattle.std.proofs.lemmas.Nat.{div-add-mod'}
 use Rattle.std.proofs.Math.Nat.{mul-div_cancel_left}
-use Rattle.array_values.specs.declared.array.Array.{Array}
+use Rattle.array_values.specs.Values.{Array}
 use Rattle.array_values.specs.declared.value.Value.{Value}
 use Rattle.array_values.specs.Forms.{cells}
 use Rattle.array_values.specs.Arrays.{repeated, spread, scalar}

@@ -11,7 +11,7 @@ use Rattle.core_syntax.specs.declared.errors.TrapKind.TheVariants as trap
 use Rattle.std.proofs.lemmas.List.Elements.{All-nil, All-cons, All-head, All-tail}
 use Rattle.std.proofs.lemmas.Bool.{le-leb, lt-ltb, le-ltb, ne_eqb}
 use Rattle.core_syntax.specs.declared.errors.StuckKind.TheVariants as stuck
-use Rattle.array_values.specs.declared.array.Array.{Array}
+use Rattle.array_values.specs.Values.{Array}
 use Rattle.array_values.specs.declared.value.Value.{Value}
 use Rattle.array_values.specs.Forms.{Forms, cells, all_below, formed}
 use Rattle.array_values.specs.Arrays.{Arrayed, IsArray, scalar, collapse, greatest, is_prefix, all_prefixes}

@@ -1,7 +1,7 @@
 -- Arrays that fit a frame, and the search for the greatest frame.
 use Rattle.std.specs.Prelude.{◌≡◌, ℕ, ◌<◌, ◌≤◌, List, [], ◌∷◌, length, Option, Some, None, true, if◌then◌else◌}
 use Rattle.std.specs.List.{All}
-use Rattle.array_values.specs.declared.array.Array.{Array}
+use Rattle.array_values.specs.Values.{Array}
 use Rattle.array_values.specs.declared.value.Value.{Value}
 use Rattle.array_values.specs.Forms.{Forms, cells}
 use Rattle.array_values.specs.Arrays.{IsArray, is_prefix}

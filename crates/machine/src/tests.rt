@@ -86,7 +86,7 @@ fn a_primitive_is_a_value(rt: HostRuntime) -> Result<(), Fail> {
     assert_eq!(rt; array.len(), 1);
     if array.len() == 1 {
         let atom = array.atom_at(0).to_value(rt.alloc())?;
-        assert!(rt; matches!(atom, Value::Prim(Primitive::Add)));
+        assert!(rt; matches!(&atom, Value::Prim(Primitive::Add)));
     }
     Ok(())
 }

@@ -3,14 +3,16 @@ pub mod Bodies
 pub mod Dues
 pub mod Framed
 pub mod Greatest
-pub mod ItemTexts
 pub mod JobWords
 pub mod Loops
 pub mod Lowers
 pub mod Made
 pub mod Maps
 pub mod OneDue
+pub mod OneNotes
+pub mod Plain
 pub mod Readings
+pub mod Reductions
 pub mod Runs
 pub mod Simulates
 pub mod Sourced

@@ -1,11 +1,22 @@
 -- One answer is due.
-use Rattle.std.proofs.Common.{◌≡◌, sym, ap, ◌∙◌, subst, ℕ, ◌<◌, ◌≤◌, arith, List, ◌++◌, length, Option, Some, Ok, Err}
+use Rattle.std.proofs.Common.{◌≡◌, refl, sym, ap, ◌∙◌, subst, ℕ, zero, suc, ◌<◌, ◌≤◌, arith, List, [], ◌++◌, length, Option, Some, Ok, Err}
 use Rattle.std.proofs.lemmas.Option.{none-some}
-use Rattle.std.proofs.Math.Logic.{∥∥₁_elim}
-use Rattle.std.specs.Coded.{Coded-set, coded_list, coded_ℕ}
+use Rattle.std.proofs.Math.Logic.{∥∥₁_elim, ∥∥₁_map, ∥∥₁_prop}
+use Rattle.std.specs.Coded.{Coded, Coded-set, code_by, coded_list, coded_ℕ}
+use Rattle.core_syntax.specs.declared.errors.TrapKind.{TrapKind}
+use Rattle.core_syntax.specs.declared.errors.TrapKind.TheVariants.{Overflow, Zero, Size}
 use Rattle.core_syntax.specs.declared.span.Span.{Span}
 use Rattle.core_syntax.specs.Blame.{Blames}
+use Rattle.core_syntax.specs.Data.{array_of_value}
 use Rattle.core_syntax.specs.NormTypes.{ty_text}
+use Rattle.core_syntax.specs.Notes.{NodeNote, ProgramNotesAre}
+use Rattle.core_syntax.specs.Start.{def_terms, start_term, Reaches, SourceTraps, SourceGoes}
+use Rattle.core_syntax.specs.Typed.{typed_rules, TypedTerm}
+use Rattle.array_values.specs.Data.{array_data}
+use Rattle.array_values.specs.Values.{Array}
+use Rattle.typed_step.proofs.Once.{one_value, one_trap, not_both}
+use Rattle.value_text.specs.ValueText.{array_text}
+use Rattle.value_text.proofs.DataTexts.{text_by_data}
 use Rattle.core_syntax.specs.Syntax.{Ty, Program}
 use Rattle.core_syntax.specs.Typing.{Has, body_context}
 use Rattle.core_syntax.proofs.NormTyLemmas.{same_normal}
@@ -25,8 +36,8 @@ use Rattle.std.specs.Prelude.{codes}
 use Rattle.std.specs.Str.Parse.{digits_value}
 use Rattle.remora_driver.specs.declared.job.Job.{Job}
 use Rattle.remora_driver.specs.declared.status.Status.TheVariants as status
-use Rattle.remora_driver.specs.declared.job.Job.TheVariants.{Check, Build, Run, Exec}
-use Rattle.remora_driver.specs.Due.{Answer, refused, outcome_answer, IsCodeDue, ends, goes_on, IsTermDue, in_time, too_late, IsBuilt, IsSource, IsAcceptedSource, IsProgram, IsRefused, too_long, unread, unresolved, ill_typed, IsCheckDue, check_refused, checks, HasNoCode, not_accepted, not_built, IsRunDue, run_refused, runs, IsBuildDue, build_refused, builds, IsExecDue, text_too_long, no_code, executes, IsJobDue, IsDue, no_job, does}
+use Rattle.remora_driver.specs.declared.job.Job.TheVariants.{Check, Build, Run, Exec, Reduce}
+use Rattle.remora_driver.specs.Due.{Answer, refused, trapped, outcome_answer, IsCodeDue, ends, goes_on, IsTermDue, in_time, too_late, IsBuilt, IsSource, IsAcceptedSource, IsProgram, IsRefused, too_long, unread, unresolved, ill_typed, IsCheckDue, check_refused, checks, HasNoCode, not_accepted, not_built, IsRunDue, run_refused, runs, IsBuildDue, build_refused, builds, IsExecDue, text_too_long, no_code, executes, HasEnd, reaches, traps, keeps_going, IsReductionDue, not_reduced, is_reduced, IsReduceDue, reduce_refused, reduces, IsJobDue, IsDue, no_job, does}
 use Rattle.remora_driver.specs.Fragment.{RunsToday}
 use Rattle.remora_driver.specs.Jobs.{IsJob, plain, limited, plain_job, limited_job}
 use Rattle.remora_driver.specs.Lowering.{code_of}
@@ -36,6 +47,7 @@ use Rattle.remora_driver.specs.Terms.{Term}
 use Rattle.remora_driver.specs.Texts.{line, accepted_text}
 use Rattle.remora_driver.proofs.Dues.{end_of}
 use Rattle.remora_driver.proofs.JobWords.{first_of_two, two_four, first_of_four, last_of_four}
+use Rattle.remora_driver.proofs.OneNotes.{program_one_notes}
 use Rattle.remora_driver.proofs.Runs.{later, once}
 
 -- ---- runs
@@ -167,6 +179,86 @@ one_run bytes budget a b (runs t is due) (run_refused m p why e) = absurd (code_
 one_run bytes budget a b (runs t is due) (runs u is' due') =
     one_term_due u budget a b (subst (λ (s : Term). IsTermDue s budget a) (one_program bytes t u is is') due) due'
 
+-- ---- reductions
+
+abbrev kind_number : TrapKind → ℕ
+kind_number Overflow = 0
+kind_number Zero = 1
+kind_number Size = 2
+
+abbrev numbered : ℕ → TrapKind
+numbered zero = Overflow
+numbered (suc zero) = Zero
+numbered (suc (suc n)) = Size
+
+kind_numbered : (k : TrapKind) → numbered (kind_number k) ≡ k
+kind_numbered Overflow = refl
+kind_numbered Zero = refl
+kind_numbered Size = refl
+
+coded_kind : Coded TrapKind
+coded_kind = code_by ℕ coded_ℕ kind_number numbered kind_numbered
+
+-- two ends of the steps of one program
+module _ (P : Program) (ns ms : List NodeNote) (same : ∥ ns ≡ ms ∥₁) (budget : ℕ) where
+  values_agree : (k l : ℕ) (v w : TypedTerm) (x y : Array) → Reaches P ns [] k v → Reaches P ms [] l w → array_data x ≡ array_of_value typed_rules v → array_data y ≡ array_of_value typed_rules w → array_text x ≡ array_text y
+  values_agree k l v w x y r s is is' =
+      ∥∥₁_elim same (Coded-set (coded_list coded_ℕ) (array_text x) (array_text y)) (λ e.
+      let one : v ≡ w = (one_value typed_rules (def_terms P ms) k l (start_term P ms []) v w (subst (λ (os : List NodeNote). Reaches P os [] k v) e r) s).1 in
+      text_by_data x y (is ∙ ap (array_of_value typed_rules) one ∙ sym is'))
+
+  kinds_agree : (k l : ℕ) (kind kind' : TrapKind) → SourceTraps P ns [] k kind → SourceTraps P ms [] l kind' → kind ≡ kind'
+  kinds_agree k l kind kind' r s =
+      ∥∥₁_elim same (Coded-set coded_kind kind kind') (λ e. (one_trap typed_rules (def_terms P ms) k l (start_term P ms []) kind kind' (subst (λ (os : List NodeNote). SourceTraps P os [] k kind) e r) s).1)
+
+  value_or_trap : (k l : ℕ) (v : TypedTerm) (kind : TrapKind) → Reaches P ns [] k v → SourceTraps P ms [] l kind → ⊥
+  value_or_trap k l v kind r s =
+      ∥∥₁_elim same (λ x y. absurd x) (λ e. not_both typed_rules (def_terms P ms) k l (start_term P ms []) v kind (subst (λ (os : List NodeNote). Reaches P os [] k v) e r) s)
+
+  trap_or_value : (k l : ℕ) (kind : TrapKind) (w : TypedTerm) → SourceTraps P ns [] k kind → Reaches P ms [] l w → ⊥
+  trap_or_value k l kind w r s =
+      ∥∥₁_elim same (λ x y. absurd x) (λ e. not_both typed_rules (def_terms P ms) l k (start_term P ms []) w kind s (subst (λ (os : List NodeNote). SourceTraps P os [] k kind) e r))
+
+  -- what goes on has no end within the budget
+  no_value : (k : ℕ) (v : TypedTerm) → k ≤ budget → Reaches P ns [] k v → SourceGoes P ms [] budget → ⊥
+  no_value k v le r going = ∥∥₁_elim same (λ x y. absurd x) (λ e. (going k le).0 v (subst (λ (os : List NodeNote). Reaches P os [] k v) e r))
+
+  no_trap : (k : ℕ) (kind : TrapKind) → k ≤ budget → SourceTraps P ns [] k kind → SourceGoes P ms [] budget → ⊥
+  no_trap k kind le r going = ∥∥₁_elim same (λ x y. absurd x) (λ e. (going k le).1 kind (subst (λ (os : List NodeNote). SourceTraps P os [] k kind) e r))
+
+  going_or_value : (l : ℕ) (w : TypedTerm) → l ≤ budget → SourceGoes P ns [] budget → Reaches P ms [] l w → ⊥
+  going_or_value l w le going s = ∥∥₁_elim same (λ x y. absurd x) (λ e. (going l le).0 w (subst (λ (os : List NodeNote). Reaches P os [] l w) (sym e) s))
+
+  going_or_trap : (l : ℕ) (kind : TrapKind) → l ≤ budget → SourceGoes P ns [] budget → SourceTraps P ms [] l kind → ⊥
+  going_or_trap l kind le going s = ∥∥₁_elim same (λ x y. absurd x) (λ e. (going l le).1 kind (subst (λ (os : List NodeNote). SourceTraps P os [] l kind) (sym e) s))
+
+  one_end : (a b : Answer) → HasEnd P ns budget a → HasEnd P ms budget b → a ≡ b
+  one_end a b (reaches k v x le r is p) (reaches l w y le' s is' q) = p ∙ ap (λ (text : List ℕ). record { status = status.Ok; text = line text }) (values_agree k l v w x y r s is is') ∙ sym q
+  one_end a b (reaches k v x le r is p) (traps l kind le' s q) = absurd (value_or_trap k l v kind r s)
+  one_end a b (reaches k v x le r is p) (keeps_going going q) = absurd (no_value k v le r going)
+  one_end a b (traps k kind le r p) (reaches l w y le' s is' q) = absurd (trap_or_value k l kind w r s)
+  one_end a b (traps k kind le r p) (traps l kind' le' s q) = p ∙ ap trapped (kinds_agree k l kind kind' r s) ∙ sym q
+  one_end a b (traps k kind le r p) (keeps_going going q) = absurd (no_trap k kind le r going)
+  one_end a b (keeps_going going p) (reaches l w y le' s is' q) = absurd (going_or_value l w le' going s)
+  one_end a b (keeps_going going p) (traps l kind le' s q) = absurd (going_or_trap l kind le' going s)
+  one_end a b (keeps_going going p) (keeps_going going' q) = p ∙ sym q
+
+  one_reduction : (a b : Answer) → IsReductionDue P ns budget a → IsReductionDue P ms budget b → a ≡ b
+  one_reduction a b (not_reduced none p) (not_reduced none' q) = p ∙ sym q
+  one_reduction a b (not_reduced none p) (is_reduced is end) = absurd (none is)
+  one_reduction a b (is_reduced is end) (not_reduced none q) = absurd (none is)
+  one_reduction a b (is_reduced is end) (is_reduced is' end') = one_end a b end end'
+
+one_reduce : (bytes : List ℕ) (budget : ℕ) (a b : Answer) → IsReduceDue bytes budget a → IsReduceDue bytes budget b → a ≡ b
+one_reduce bytes budget a b (reduce_refused m p why e) (reduce_refused n q why' h) = e ∙ one_refusal bytes m n p q why why' ∙ sym h
+one_reduce bytes budget a b (reduce_refused m p why e) (reduces P ns is are due) = absurd (refused_or_not bytes m p P why is)
+one_reduce bytes budget a b (reduces P ns is are due) (reduce_refused m p why e) = absurd (refused_or_not bytes m p P why is)
+one_reduce bytes budget a b (reduces P ns is are due) (reduces Q ms is' are' due') =
+    let same : P ≡ Q = one_source bytes P Q is.means is'.means in
+    let own : ∥ ProgramNotesAre Q ns ∥₁ = subst (λ (R : Program). ∥ ProgramNotesAre R ns ∥₁) same are in
+    let notes : ∥ ns ≡ ms ∥₁ = ∥∥₁_elim own ∥∥₁_prop (λ x. ∥∥₁_map are' (λ y. program_one_notes Q ns ms x y)) in
+    one_reduction Q ns ms notes budget a b (subst (λ (R : Program). IsReductionDue R ns budget a) same due) due'
+
 one_built : (t : Term) (a b : Answer) → IsBuilt t a → IsBuilt t b → a ≡ b
 one_built t a b p q =
     let status = p.status ∙ sym q.status in
@@ -219,6 +311,7 @@ one_job_due Check bytes a b p q = one_check bytes a b p q
 one_job_due Build bytes a b p q = one_build bytes a b p q
 one_job_due (Run budget) bytes a b p q = one_run bytes budget a b p q
 one_job_due (Exec budget) bytes a b p q = one_exec bytes budget a b p q
+one_job_due (Reduce budget) bytes a b p q = one_reduce bytes budget a b p q
 
 pub one_due : (words : List (List ℕ)) (bytes : List ℕ) (a b : Answer) → IsDue words bytes a → IsDue words bytes b → a ≡ b
 one_due words bytes a b (no_job n p) (no_job m q) = p ∙ sym q

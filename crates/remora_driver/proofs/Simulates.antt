@@ -5,7 +5,7 @@ use Rattle.std.proofs.lemmas.Bool.{le-ltb, ne_eqb}
 use Rattle.std.proofs.lemmas.List.{append-nil, length-map}
 use Rattle.core_syntax.specs.declared.span.Span.{Span}
 use Rattle.core_syntax.specs.declared.errors.TrapKind.TheVariants as trap
-use Rattle.array_values.specs.declared.array.Array.{Array}
+use Rattle.array_values.specs.Values.{Array}
 use Rattle.array_values.specs.declared.value.Value.{Value}
 use Rattle.array_values.specs.declared.value.Value.TheVariants.{Int, Prim}
 use Rattle.array_values.specs.Forms.{Forms, cells, formed}

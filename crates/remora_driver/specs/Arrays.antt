@@ -1,6 +1,6 @@
 -- Arrays of integers.
 use Rattle.std.specs.Prelude.{◌≡◌, ◌<◌, length, map, ℤ}
-use Rattle.array_values.specs.declared.array.Array.{Array}
+use Rattle.array_values.specs.Values.{Array}
 use Rattle.array_values.specs.declared.value.Value.TheVariants.{Int}
 use Rattle.array_values.specs.Arrays.{Arrayed}
 use Rattle.array_values.specs.Forms.{Forms, cells}

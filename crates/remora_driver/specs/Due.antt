@@ -1,13 +1,18 @@
 -- The answers that are due.
-use Rattle.std.specs.Prelude.{◌≡◌, ℕ, ◌+◌, ◌<◌, ◌≤◌, List, length, Some, None}
+use Rattle.std.specs.Prelude.{◌≡◌, ℕ, ◌+◌, ◌<◌, ◌≤◌, List, [], length, Some, None}
 use Rattle.core_syntax.specs.declared.span.Span.{Span}
 use Rattle.core_syntax.specs.declared.errors.StuckKind.{StuckKind}
 use Rattle.core_syntax.specs.declared.errors.TrapKind.{TrapKind}
 use Rattle.core_syntax.specs.declared.errors.TrapKind.TheVariants.{Overflow}
 use Rattle.core_syntax.specs.Blame.{Blames, IsAccepted}
+use Rattle.core_syntax.specs.Data.{array_of_value}
+use Rattle.core_syntax.specs.Notes.{NodeNote, ProgramNotesAre}
+use Rattle.core_syntax.specs.Start.{Reaches, SourceTraps, SourceGoes}
 use Rattle.core_syntax.specs.Syntax.{Ty, Program}
+use Rattle.core_syntax.specs.Typed.{typed_rules, TypedTerm}
 use Rattle.core_syntax.specs.Typing.{Has, Typed, body_context}
-use Rattle.array_values.specs.declared.array.Array.{Array}
+use Rattle.array_values.specs.Data.{array_data}
+use Rattle.array_values.specs.Values.{Array}
 use Rattle.code_text.specs.declared.code.Block.{Block}
 use Rattle.code_text.specs.Blame.{CodeText}
 use Rattle.code_text.specs.Ends.{Ends, GoesOn}
@@ -16,15 +21,17 @@ use Rattle.sexp_reader.specs.Forms.{Forms}
 use Rattle.sexp_reader.specs.Reads.{Reads, read_blame}
 use Rattle.name_resolve.specs.Means.{Means, NameBlame}
 use Rattle.remora_driver.specs.declared.job.Job.{Job}
-use Rattle.remora_driver.specs.declared.job.Job.TheVariants.{Check, Build, Run, Exec}
+use Rattle.remora_driver.specs.declared.job.Job.TheVariants.{Check, Build, Run, Exec, Reduce}
 use Rattle.remora_driver.specs.declared.status.Status.{Status}
 use Rattle.remora_driver.specs.declared.status.Status.TheVariants as status
 use Rattle.remora_driver.specs.Arrays.{Integers, values}
 use Rattle.remora_driver.specs.Fragment.{RunsToday}
 use Rattle.remora_driver.specs.Jobs.{longest_source, longest_code, IsJob, IsCall}
 use Rattle.remora_driver.specs.Lowering.{code_of, steps_of}
+use Rattle.remora_driver.specs.Reducible.{IsReducible}
 use Rattle.remora_driver.specs.Terms.{Term}
-use Rattle.remora_driver.specs.Texts.{line, array_text, accepted_text, refusal_text, trap_text, stuck_text, still_running_text, usage_text}
+use Rattle.value_text.specs.ValueText.{array_text}
+use Rattle.remora_driver.specs.Texts.{line, accepted_text, refusal_text, trap_text, stuck_text, still_running_text, usage_text}
 use Rattle.remora_driver.specs.Values.{value_of}
 
 -- a status, and the text that is written with it
@@ -146,6 +153,24 @@ pub data IsBuildDue (bytes : List ℕ) (a : Answer) : Type 0 where
   build_refused : (number : ℕ) (at : Span) → HasNoCode bytes number at → a ≡ refused number at → IsBuildDue bytes a
   builds : (t : Term) → IsProgram bytes t → IsBuilt t a → IsBuildDue bytes a
 
+-- ---- reduction
+
+-- how at most so many steps of a program's body end, where these are the notes of its nodes: a value is reached, a step traps, or the run goes on
+pub data HasEnd (P : Program) (notes : List NodeNote) (budget : ℕ) (a : Answer) : Type 0 where
+  reaches : (k : ℕ) (v : TypedTerm) (x : Array) → k ≤ budget → Reaches P notes [] k v → array_data x ≡ array_of_value typed_rules v → a ≡ shown x → HasEnd P notes budget a
+  traps : (k : ℕ) (kind : TrapKind) → k ≤ budget → SourceTraps P notes [] k kind → a ≡ trapped kind → HasEnd P notes budget a
+  keeps_going : SourceGoes P notes [] budget → a ≡ still_running → HasEnd P notes budget a
+
+-- what is due for an accepted program that is to be reduced: it isn't reduced today, or its steps end so
+pub data IsReductionDue (P : Program) (notes : List NodeNote) (budget : ℕ) (a : Answer) : Type 0 where
+  not_reduced : ¬ (IsReducible P) → a ≡ refused 90 front → IsReductionDue P notes budget a
+  is_reduced : IsReducible P → HasEnd P notes budget a → IsReductionDue P notes budget a
+
+-- what is due for a program source that is reduced
+pub data IsReduceDue (bytes : List ℕ) (budget : ℕ) (a : Answer) : Type 0 where
+  reduce_refused : (number : ℕ) (at : Span) → IsRefused bytes number at → a ≡ refused number at → IsReduceDue bytes budget a
+  reduces : (P : Program) (notes : List NodeNote) → IsAcceptedSource bytes P → ∥ ProgramNotesAre P notes ∥₁ → IsReductionDue P notes budget a → IsReduceDue bytes budget a
+
 -- ---- code texts
 
 -- what is due for a code text, in this order
@@ -162,6 +187,7 @@ IsJobDue Check bytes a = IsCheckDue bytes a
 IsJobDue Build bytes a = IsBuildDue bytes a
 IsJobDue (Run budget) bytes a = IsRunDue bytes budget a
 IsJobDue (Exec budget) bytes a = IsExecDue bytes budget a
+IsJobDue (Reduce budget) bytes a = IsReduceDue bytes budget a
 
 -- what is due for these words and bytes
 pub data IsDue (words : List (List ℕ)) (bytes : List ℕ) (a : Answer) : Type 0 where

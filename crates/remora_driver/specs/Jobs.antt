@@ -3,7 +3,7 @@ use Rattle.std.specs.Prelude.{◌≡◌, ℕ, ◌≤◌, List, [], ◌∷◌, le
 use Rattle.std.specs.Str.{bytes_eq}
 use Rattle.std.specs.Str.Parse.{IsNumeral, digits_value}
 use Rattle.remora_driver.specs.declared.job.Job.{Job}
-use Rattle.remora_driver.specs.declared.job.Job.TheVariants.{Check, Build, Run, Exec}
+use Rattle.remora_driver.specs.declared.job.Job.TheVariants.{Check, Build, Run, Exec, Reduce}
 
 -- the budget of words that give none
 abbrev pub usual_budget : ℕ
@@ -21,7 +21,8 @@ pub record IsBudget (word : List ℕ) (budget : ℕ) : Type 0 where
 abbrev pub limited_job : List ℕ → ℕ → Option Job
 limited_job command budget =
     if bytes_eq command (codes "run") then Some (Run budget) else
-    if bytes_eq command (codes "exec") then Some (Exec budget) else None
+    if bytes_eq command (codes "exec") then Some (Exec budget) else
+    if bytes_eq command (codes "reduce") then Some (Reduce budget) else None
 
 -- the job of a command without one
 abbrev pub plain_job : List ℕ → Option Job
@@ -52,3 +53,4 @@ longest Check = longest_source
 longest Build = longest_source
 longest (Run budget) = longest_source
 longest (Exec budget) = longest_code
+longest (Reduce budget) = longest_source

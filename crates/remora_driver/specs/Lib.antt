@@ -7,6 +7,8 @@ pub mod Jobs
 pub mod Laws
 pub mod Lowering
 pub mod Options
+pub mod Reducible
+pub mod Reductions
 pub mod Results
 pub mod Sources
 pub mod Terms

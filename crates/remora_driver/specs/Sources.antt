@@ -12,7 +12,7 @@ use Rattle.code_text.specs.Machine as outcomes
 use Rattle.code_text.specs.Text.{IsCode}
 use Rattle.machine.specs.declared.running.Outcome.{Outcome}
 use Rattle.machine.specs.declared.running.Outcome.TheVariants as outcome
-use Rattle.remora_driver.specs.declared.answer.Answer.{Answer as Given}
+use Rattle.remora_driver.specs.declared.answer.Reply.{Reply}
 use Rattle.remora_driver.specs.declared.errors.SourceRefusal.{SourceRefusal}
 use Rattle.remora_driver.specs.declared.errors.SourceRefusal.TheVariants as no_code
 use Rattle.remora_driver.specs.Due.{Answer, front, EndsAsMeant, IsSource, IsAcceptedSource, IsRefused, IsProgram, HasNoCode, shown, trapped, stuck, still_running}
@@ -78,8 +78,8 @@ Compiles bytes (Ok code) = IsCompiled bytes code
 Compiles bytes (Err (no_code.Refused number at)) = HasNoCode bytes number at
 Compiles bytes (Err no_code.Memory) = Unit {0}
 
--- the status and the bytes of the text
-abbrev pub seen : Given → Answer
+-- the status and the bytes of a reply
+abbrev pub seen : Reply → Answer
 seen a = record { status = a.status; text = a.text.items }
 
 -- the answer that shows what a machine answered

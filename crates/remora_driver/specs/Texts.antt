@@ -1,6 +1,6 @@
 -- The texts that the commands write.
-use Rattle.std.specs.Prelude.{ℕ, List, [], ◌∷◌, ◌++◌, codes, flat_map}
-use Rattle.std.specs.Fmt.{decimal, signed_decimal}
+use Rattle.std.specs.Prelude.{ℕ, List, [], ◌∷◌, ◌++◌, codes}
+use Rattle.std.specs.Fmt.{decimal}
 use Rattle.core_syntax.specs.declared.span.Span.{Span}
 use Rattle.core_syntax.specs.declared.errors.TrapKind.{TrapKind}
 use Rattle.core_syntax.specs.declared.errors.TrapKind.TheVariants.{Overflow, Zero, Size}
@@ -8,27 +8,10 @@ use Rattle.core_syntax.specs.declared.errors.StuckKind.{StuckKind}
 use Rattle.core_syntax.specs.declared.errors.StuckKind.TheVariants.{Operand, Kind, Rank, Shape}
 use Rattle.core_syntax.specs.NormTypes.{norm_ty, ty_text}
 use Rattle.core_syntax.specs.Syntax.{Ty}
-use Rattle.array_values.specs.declared.array.Array.{Array}
-use Rattle.array_values.specs.declared.value.Value.{Value}
-use Rattle.array_values.specs.declared.value.Value.TheVariants.{Int, Prim}
 
 -- a text that ends its line
 abbrev pub line : List ℕ → List ℕ
 line text = text ++ 10 ∷ []
-
--- numbers with single spaces between them
-abbrev pub dims_text : List ℕ → List ℕ
-dims_text [] = []
-dims_text (d ∷ ds) = decimal d ++ flat_map (λ e. 32 ∷ decimal e) ds
-
--- an atom: an integer in decimal digits, a function as `#fn`
-abbrev pub atom_text : Value → List ℕ
-atom_text (Int z) = signed_decimal z
-atom_text (Prim op) = codes "#fn"
-
--- an array: its dimensions in parentheses, and its atoms
-abbrev pub array_text : Array → List ℕ
-array_text a = codes "(array (" ++ dims_text a.dims ++ codes ")" ++ flat_map (λ v. 32 ∷ atom_text v) a.atoms ++ codes ")"
 
 -- an accepted program: `ok` and the normal form of its body's type
 abbrev pub accepted_text : Ty → List ℕ

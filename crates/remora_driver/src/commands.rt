@@ -4,16 +4,19 @@ ghost use Rattle.remora_driver.specs.declared.status.Status.TheVariants as statu
 ghost use Rattle.std.specs.Prelude.{◌≡◌, ◌≤◌, ℕ, length, IfOk};
 ghost use Rattle.core_syntax.specs.Refine.{ty_of};
 ghost use Rattle.machine.specs.Answers.{Answers};
-ghost use Rattle.remora_driver.specs.Due.{accepted, IsCodeDue, IsCheckDue, IsRunDue, IsBuildDue, IsExecDue, IsJobDue};
+ghost use Rattle.remora_driver.specs.Due.{accepted, IsCodeDue, IsCheckDue, IsRunDue, IsBuildDue, IsExecDue, IsReduceDue, IsJobDue};
 ghost use Rattle.remora_driver.specs.Jobs.{longest, longest_code};
+ghost use Rattle.remora_driver.specs.Reductions.{ended, IsCheckedDue};
 ghost use Rattle.remora_driver.specs.Sources.{seen, told};
 
 use crate::answer::{
-    Answer, FRONT, NOT_BUILT, refusal, shown_array, still_running, stuck, trap, type_answer,
+    FRONT, NOT_BUILT, Reply, refusal, shown_array, still_running, stuck, trap, type_answer,
 };
 use crate::compiling::compile;
 use crate::errors::SourceRefusal;
 use crate::job::Job;
+use crate::reducible::is_reducible;
+use crate::reducing::{Reduction, reduce_program};
 use crate::source::check_source;
 use crate::status::Status;
 use code_text::{Code, CodeRefusal, parse, print};
@@ -30,7 +33,7 @@ fn outcome(alloc: Global, code: &Code, budget: u64) -> Result<Outcome, Memory>
 }
 
 // The answer that shows an outcome.
-fn outcome_answer(alloc: Global, outcome: Outcome) -> Result<Answer, Memory>
+fn outcome_answer(alloc: Global, outcome: Outcome) -> Result<Reply, Memory>
     ensures { IfOk result (λ a. seen a ≡ told outcome) }
 {
     match outcome {
@@ -42,7 +45,7 @@ fn outcome_answer(alloc: Global, outcome: Outcome) -> Result<Answer, Memory>
 }
 
 // The answer of a code of which so many steps may be done.
-fn run_code(alloc: Global, code: &Code, budget: u64) -> Result<Answer, Memory>
+fn run_code(alloc: Global, code: &Code, budget: u64) -> Result<Reply, Memory>
     ensures { IfOk result (λ a. IsCodeDue code.now budget (seen a)) }
 {
     let outcome = outcome(alloc, code, budget)?;
@@ -50,13 +53,13 @@ fn run_code(alloc: Global, code: &Code, budget: u64) -> Result<Answer, Memory>
 }
 
 // The answer that shows the type of a checked program's body.
-fn checked_answer(alloc: Global, checked: &Checked) -> Result<Answer, Memory>
+fn checked_answer(alloc: Global, checked: &Checked) -> Result<Reply, Memory>
     ensures { IfOk result (λ a. seen a ≡ accepted (ty_of checked.now.body)) }
 {
     type_answer(alloc, checked.result())
 }
 
-fn check(alloc: Global, source: &[u8]) -> Result<Answer, Memory>
+fn check(alloc: Global, source: &[u8]) -> Result<Reply, Memory>
     ensures { IfOk result (λ a. IsCheckDue source.now (seen a)) }
 {
     match check_source(alloc, source) {
@@ -66,7 +69,7 @@ fn check(alloc: Global, source: &[u8]) -> Result<Answer, Memory>
     }
 }
 
-fn run(alloc: Global, source: &[u8], budget: u64) -> Result<Answer, Memory>
+fn run(alloc: Global, source: &[u8], budget: u64) -> Result<Reply, Memory>
     ensures { IfOk result (λ a. IsRunDue source.now budget (seen a)) }
 {
     match compile(alloc, source) {
@@ -77,17 +80,17 @@ fn run(alloc: Global, source: &[u8], budget: u64) -> Result<Answer, Memory>
 }
 
 // The answer that shows the text of a code.
-fn code_answer(alloc: Global, code: &Code) -> Result<Answer, Memory>
+fn code_answer(alloc: Global, code: &Code) -> Result<Reply, Memory>
     ensures { IfOk result (λ a. seen a ≡ record { status = statuses.Ok; text = code_text code.now }) }
 {
     let text = print(alloc, code)?;
-    Ok(Answer {
+    Ok(Reply {
         status: Status::Ok,
         text,
     })
 }
 
-fn build(alloc: Global, source: &[u8]) -> Result<Answer, Memory>
+fn build(alloc: Global, source: &[u8]) -> Result<Reply, Memory>
     ensures { IfOk result (λ a. IsBuildDue source.now (seen a)) }
 {
     match compile(alloc, source) {
@@ -97,7 +100,7 @@ fn build(alloc: Global, source: &[u8]) -> Result<Answer, Memory>
     }
 }
 
-fn exec(alloc: Global, text: &[u8], budget: u64) -> Result<Answer, Memory>
+fn exec(alloc: Global, text: &[u8], budget: u64) -> Result<Reply, Memory>
     requires { length text.now ≤ longest_code }
     ensures { IfOk result (λ a. IsExecDue text.now budget (seen a)) }
 {
@@ -108,8 +111,42 @@ fn exec(alloc: Global, text: &[u8], budget: u64) -> Result<Answer, Memory>
     }
 }
 
+// The answer that shows how a reduction ends.
+fn end_answer(alloc: Global, end: &Reduction) -> Result<Reply, Memory>
+    ensures { IfOk result (λ a. seen a ≡ ended end.now) }
+{
+    match end {
+        Reduction::Value(array) => shown_array(alloc, array),
+        Reduction::Trap(kind) => trap(alloc, *kind),
+        Reduction::Going => still_running(alloc),
+    }
+}
+
+// The answer of a checked program of which so many steps may be done.
+fn reduced(alloc: Global, checked: &Checked, budget: u64) -> Result<Reply, Memory>
+    ensures { IfOk result (λ a. IsCheckedDue checked.now budget (seen a)) }
+{
+    if !is_reducible(checked.program()) {
+        return refusal(alloc, NOT_BUILT, FRONT);
+    }
+    match reduce_program(alloc, checked, budget) {
+        Ok(end) => end_answer(alloc, &end),
+        Err(Memory) => Err(Memory),
+    }
+}
+
+fn reduce(alloc: Global, source: &[u8], budget: u64) -> Result<Reply, Memory>
+    ensures { IfOk result (λ a. IsReduceDue source.now budget (seen a)) }
+{
+    match check_source(alloc, source) {
+        Ok(checked) => reduced(alloc, &checked, budget),
+        Err(SourceRefusal::Refused { number, span }) => refusal(alloc, number, span),
+        Err(SourceRefusal::Memory) => Err(Memory),
+    }
+}
+
 /// The answer to a job on these bytes, which are no more than the job takes.
-pub fn answer_to(alloc: Global, job: Job, bytes: &[u8]) -> Result<Answer, Memory>
+pub fn answer_to(alloc: Global, job: Job, bytes: &[u8]) -> Result<Reply, Memory>
     requires { length bytes.now ≤ longest job }
     ensures { IfOk result (λ a. IsJobDue job bytes.now (seen a)) }
 {
@@ -118,5 +155,6 @@ pub fn answer_to(alloc: Global, job: Job, bytes: &[u8]) -> Result<Answer, Memory
         Job::Build => build(alloc, bytes),
         Job::Run { budget } => run(alloc, bytes, budget),
         Job::Exec { budget } => exec(alloc, bytes, budget),
+        Job::Reduce { budget } => reduce(alloc, bytes, budget),
     }
 }

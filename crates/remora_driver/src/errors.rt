@@ -13,6 +13,17 @@ pub enum SourceRefusal {
     Memory,
 }
 
+/// Why data is refused.
+#[derive(Clone, Copy, Debug, PartialEq, Eq, Error)]
+pub enum DataRefusal {
+    /// It is refused with this number at this place (docs/LANGUAGE.md, "Data").
+    #[error("data refused {number} {}:{}", .span.line, .span.col)]
+    Refused { number: u8, span: Span },
+    /// There was no memory.
+    #[error("no memory")]
+    Memory,
+}
+
 /// Why a part of a program has no term: it doesn't run today, or there was no memory.
 #[derive(Clone, Copy, Debug, PartialEq, Eq, Error)]
 pub enum NoResult {

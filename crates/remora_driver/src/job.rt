@@ -11,13 +11,15 @@ const MOST_STEPS: u64 = 1_000_000_000;
 /// The most digits of a budget.
 const MOST_DIGITS: usize = 10;
 
-/// What the words ask for, by docs/LANGUAGE.md, "Calls". A budget is the number of steps that the machine may do.
+/// What the words ask for, by docs/LANGUAGE.md, "Calls". A budget is the number of steps that the machine, or reduction, may
+/// do.
 #[derive(Clone, Copy, Debug, PartialEq, Eq)]
 pub enum Job {
     Check,
     Build,
     Run { budget: u64 },
     Exec { budget: u64 },
+    Reduce { budget: u64 },
 }
 
 /// The most bytes of a program source.
@@ -32,7 +34,7 @@ impl Job {
         ensures { result ≡ longest_of self.now }
     {
         match self {
-            Job::Check | Job::Build | Job::Run { .. } => LONGEST_SOURCE,
+            Job::Check | Job::Build | Job::Run { .. } | Job::Reduce { .. } => LONGEST_SOURCE,
             Job::Exec { .. } => LONGEST_CODE,
         }
     }
@@ -56,6 +58,7 @@ fn limited_job(command: &str, budget: u64) -> Option<Job>
     match command {
         "run" => Some(Job::Run { budget }),
         "exec" => Some(Job::Exec { budget }),
+        "reduce" => Some(Job::Reduce { budget }),
         _ => None,
     }
 }

@@ -3,19 +3,26 @@
 
 mod answer;
 mod arrays;
+mod calls;
 mod commands;
 mod compiling;
+mod data;
 mod errors;
 mod expression;
 mod fragment;
 mod job;
 mod laws;
 mod lowering;
+mod reducible;
+mod reducing;
+#[cfg(test)]
+mod reduction_tests;
 mod source;
 mod status;
 mod texts;
 mod top;
 
+pub use calls::{Answer, reduce_source};
 pub use errors::SourceRefusal;
 pub use laws::one_answer;
 pub use source::check_source;

@@ -6,7 +6,7 @@ use std::process::Abort;
 use std::test::Fail;
 
 // Calls the program with these words over memory, and compares what it writes and how it ends.
-fn calls(
+pub(crate) fn calls(
     rt: &impl Abort,
     alloc: Global,
     words: &[&str],
@@ -27,7 +27,7 @@ fn calls(
     Ok(())
 }
 
-fn refused(number: u8, (from, to): (u32, u32), (line, col): (u32, u32)) -> Status {
+pub(crate) fn refused(number: u8, (from, to): (u32, u32), (line, col): (u32, u32)) -> Status {
     Status::Refused {
         number,
         span: Span {
@@ -39,7 +39,7 @@ fn refused(number: u8, (from, to): (u32, u32), (line, col): (u32, u32)) -> Statu
     }
 }
 
-const ADD: &[u8] = b"(main () (+ (array (2 3) 1 2 3 4 5 6) (array (2) 10 20)))";
+pub(crate) const ADD: &[u8] = b"(main () (+ (array (2 3) 1 2 3 4 5 6) (array (2) 10 20)))";
 
 #[test]
 fn runs_programs(rt: HostRuntime) -> Result<(), Fail> {
@@ -93,6 +93,14 @@ fn refuses(
     let status = refused(number, bytes, place);
     calls(rt, alloc, &["check", "f"], program, status, line.as_bytes())?;
     calls(rt, alloc, &["run", "f"], program, status, line.as_bytes())?;
+    calls(
+        rt,
+        alloc,
+        &["reduce", "f"],
+        program,
+        status,
+        line.as_bytes(),
+    )?;
     calls(rt, alloc, &["build", "f"], program, status, line.as_bytes())
 }
 
@@ -428,7 +436,7 @@ fn checks_programs(rt: HostRuntime) -> Result<(), Fail> {
     Ok(())
 }
 
-const NOT_BUILT: &[u8] = b"refused 90 1:1\n";
+pub(crate) const NOT_BUILT: &[u8] = b"refused 90 1:1\n";
 
 #[test]
 fn refuses_what_is_not_built(rt: HostRuntime) -> Result<(), Fail> {
@@ -489,7 +497,7 @@ fn keeps_the_limits_of_sources(rt: HostRuntime) -> Result<(), Fail> {
 const ADD_CODE: &[u8] =
     b"remora-code 1\nparams 0\nblocks 1\nblock 4\nprim +\nconst (2 3) 1 2 3 4 5 6\nconst (2) 10 20\napp ((shape) (shape)) (shape)\n";
 
-const ADD_LINE: &[u8] = b"(array (2 3) 11 12 13 24 25 26)\n";
+pub(crate) const ADD_LINE: &[u8] = b"(array (2 3) 11 12 13 24 25 26)\n";
 
 #[test]
 fn counts_steps(rt: HostRuntime) -> Result<(), Fail> {
@@ -561,6 +569,14 @@ fn other_words_are_no_call(rt: HostRuntime) -> Result<(), Fail> {
             &rt,
             alloc,
             &["run", "f", "--steps", steps],
+            ADD,
+            Status::Usage,
+            USAGE,
+        )?;
+        calls(
+            &rt,
+            alloc,
+            &["reduce", "f", "--steps", steps],
             ADD,
             Status::Usage,
             USAGE,

@@ -1,71 +1,22 @@
 // The texts that the commands write.
-ghost use Rattle.std.specs.Prelude.{◌≡◌, ◌++◌, ◌∷◌, OnOk, IfOk, codes, string_bytes, flat_map};
-ghost use Rattle.std.specs.Fmt.{decimal};
-ghost use Rattle.array_values.specs.Lent.{value_of, IsLent};
+ghost use Rattle.std.specs.Prelude.{◌≡◌, ◌++◌, IfOk, codes, string_bytes};
 ghost use Rattle.core_syntax.specs.NormTypes.{ty_text};
 ghost use Rattle.core_syntax.specs.Refine.{ty_of};
-ghost use Rattle.remora_driver.specs.Texts.{line, dims_text, atom_text, array_text, accepted_text, refusal_text, trap_text, stuck_text, still_running_text, usage_text};
+ghost use Rattle.value_text.specs.ValueText.{array_text};
+ghost use Rattle.remora_driver.specs.Texts.{line, accepted_text, refusal_text, trap_text, stuck_text, still_running_text, usage_text};
 
-use array_values::{Array, ValueRef};
+use array_values::Array;
 use core_syntax::{Memory, Span, StuckKind, TrapKind, Ty};
 use std::alloc::{AllocError, Global};
-use std::fmt::Write;
 use type_equal::{NormType, normal, show_type};
-
-// Numbers, each behind a space.
-fn put_more_dims(out: &mut String, dims: &[u32]) -> Result<(), AllocError>
-    ensures { OnOk result (string_bytes out.new ≡ string_bytes out.old ++ flat_map (λ d. 32 ∷ decimal d) dims.now) }
-{
-    for dim in dims {
-        write!(out, " {dim}")?;
-    }
-    Ok(())
-}
-
-fn put_dims(out: &mut String, dims: &[u32]) -> Result<(), AllocError>
-    ensures { OnOk result (string_bytes out.new ≡ string_bytes out.old ++ dims_text dims.now) }
-{
-    let [first, others @ ..] = dims else {
-        return Ok(());
-    };
-    write!(out, "{first}")?;
-    put_more_dims(out, others)
-}
-
-// An atom behind a space.
-fn put_atom(out: &mut String, atom: ValueRef<'_>) -> Result<(), AllocError>
-    requires { IsLent atom }
-    ensures { OnOk result (string_bytes out.new ≡ string_bytes out.old ++ 32 ∷ atom_text (value_of atom.entry)) }
-{
-    match atom {
-        ValueRef::Int(integer) => {
-            write!(out, " {integer}")?;
-            Ok(())
-        }
-        ValueRef::Other(_) => out.push_str(" #fn"),
-    }
-}
-
-// Atoms, each behind a space.
-fn put_atoms(out: &mut String, array: &Array) -> Result<(), AllocError>
-    ensures { OnOk result (string_bytes out.new ≡ string_bytes out.old ++ flat_map (λ v. 32 ∷ atom_text v) array.now.atoms) }
-{
-    for place in 0..array.len() {
-        put_atom(out, array.atom_at(place))?;
-    }
-    Ok(())
-}
+use value_text::show;
 
 /// The line of an array.
-pub fn array_line(alloc: Global, array: &Array) -> Result<String, AllocError>
-    ensures { IfOk result (λ text. string_bytes text ≡ line (array_text array.now)) }
+pub fn array_line(alloc: Global, array: &Array) -> Result<Vec<u8>, Memory>
+    ensures { IfOk result (λ text. text.items ≡ line (array_text array.now)) }
 {
-    let mut out = String::new(alloc);
-    out.push_str("(array (")?;
-    put_dims(&mut out, array.dims())?;
-    out.push_str(")")?;
-    put_atoms(&mut out, array)?;
-    out.push_str(")\n")?;
+    let mut out = show(alloc, array)?;
+    out.push(b'\n')?;
     Ok(out)
 }
 

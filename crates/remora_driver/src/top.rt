@@ -8,7 +8,7 @@ ghost use Rattle.remora_driver.specs.Jobs.{IsCall, IsJob, longest};
 ghost use Rattle.remora_driver.specs.Sources.{seen};
 ghost use Rattle.remora_driver.specs.Top.{IsTold, IsDueFor, IsAnswer, HaltsFor};
 
-use crate::answer::{Answer, too_long, usage_answer};
+use crate::answer::{Reply, too_long, usage_answer};
 use crate::commands::answer_to;
 use crate::job::{Job, job_of};
 use crate::status::Status;
@@ -38,7 +38,7 @@ impl From<Memory> for Halt {
 }
 
 // The answer to a job on the bytes that the program source has.
-fn job_answer<P: Source>(alloc: Global, job: Job, program: &mut P) -> Result<Answer, Halt>
+fn job_answer<P: Source>(alloc: Global, job: Job, program: &mut P) -> Result<Reply, Halt>
     ensures due { IfOk result (λ a. (bytes : List ℕ) × IsTold (P.left program.old) bytes × IsJobDue job bytes (seen a)) }
     ensures fault { IfErr result (λ e. HaltsFor e (P.faults program.old) (P.faults program.new)) }
     ensures no_fault { result ≢ Err Halt.ReadFault → P.faults program.new ≡ P.faults program.old }
@@ -55,7 +55,7 @@ fn job_answer<P: Source>(alloc: Global, job: Job, program: &mut P) -> Result<Ans
 }
 
 // The answer to these words.
-fn answer<P: Source>(alloc: Global, words: &[String], program: &mut P) -> Result<Answer, Halt>
+fn answer<P: Source>(alloc: Global, words: &[String], program: &mut P) -> Result<Reply, Halt>
     ensures due { IfOk result (λ a. IsDueFor (map string_bytes words.now) (P.left program.old) (seen a)) }
     ensures answer { IfOk result (λ a. IsAnswer a.status) }
     ensures fault { IfErr result (λ e. HaltsFor e (P.faults program.old) (P.faults program.new)) }
@@ -72,7 +72,7 @@ fn answer<P: Source>(alloc: Global, words: &[String], program: &mut P) -> Result
 }
 
 // Writes an answer.
-fn write_answer<O: Sink>(out: &mut O, answer: Answer) -> Status
+fn write_answer<O: Sink>(out: &mut O, answer: Reply) -> Status
     requires { IsAnswer answer.status }
     ensures written { IsAnswer result → (result ≡ answer.status) × Appends (O.written out.old) (O.written out.new) answer.text.items }
     ensures fault { result ≡ Status.WriteFault → Rose (O.faults out.old) (O.faults out.new) × AppendsFront (O.written out.old) (O.written out.new) answer.text.items }

@@ -1,0 +1,11 @@
+pub mod Laws
+pub mod Answers
+pub mod ArrayAnswers
+pub mod Outcomes
+pub mod Runs
+pub mod Frames
+pub mod Indices
+pub mod Readings
+pub mod Closing
+pub mod Steps
+pub mod Putting
