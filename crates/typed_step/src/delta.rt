@@ -44,7 +44,8 @@ enum Given {
     Unfit,
 }
 
-/// A primitive with its types and its indices on arguments: its value, its trap or, of `reduce` and `fold`, the nested applications.
+/// A primitive with its types and its indices on arguments: its value or its trap. `reduce`, `fold`, `iota`, `reshape`, `ravel`
+/// and `filter` aren't done yet, and find no memory.
 pub(crate) fn delta(
     alloc: Global,
     primitive: Primitive,

@@ -11,8 +11,12 @@ use core_syntax::{Memory, TermExpr, TrapKind};
 use sqlite_items::Items;
 use std::alloc::Global;
 
-/// One step of a closed term (docs/LANGUAGE.md, "Reduction"): it is a value, it traps, or it goes to the next term. Where there
-/// is no memory the term is given up.
+/// One step of a closed term (docs/LANGUAGE.md, "Reduction"): it is a value, it traps, or it goes to the next term.
+///
+/// # Errors
+///
+/// Where there is no memory; where a term or a type would nest too deep (docs/LANGUAGE.md, "Limits"); and at `reduce`, `fold`,
+/// `iota`, `reshape`, `ravel` and `filter`, which aren't done yet. The term is then given up.
 pub fn step(alloc: Global, closed: Closed) -> Result<Next, Memory>
     ensures { IfOk result (λ next. Stepped (each term_of closed.defs) (term_of closed.term) next) }
 {
@@ -22,8 +26,11 @@ pub fn step(alloc: Global, closed: Closed) -> Result<Next, Memory>
     next(looked(ran, budget), defs, term)
 }
 
-/// At most k steps of a closed term: it goes on exactly where it has neither reached a value nor trapped within k. Where there
-/// is no memory the term is given up.
+/// At most k steps of a closed term: it goes on exactly where it has neither reached a value nor trapped within k.
+///
+/// # Errors
+///
+/// As of [`step`]. They may also come of the step behind the k-th, which is looked at and not taken.
 pub fn reduce(alloc: Global, closed: Closed, k: u64) -> Result<Next, Memory>
     ensures { IfOk result (λ next. Reduced (each term_of closed.defs) (term_of closed.term) k next) }
 {
