@@ -40,7 +40,7 @@ cost() {
     awk -v ns=$((whole - read_only)) -v steps="$steps" 'BEGIN { printf "%.2f\n", ns / steps }'
 }
 
-"$remora" run "$top/examples/add.remora" >/dev/null
+"$remora" --prove >/dev/null
 
 small=$(cost 100000)
 large=$(cost 200000)

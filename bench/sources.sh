@@ -53,7 +53,7 @@ write_lua() {
     }'
 }
 
-"$remora" run "$top/examples/add.remora" >/dev/null
+"$remora" --prove >/dev/null
 failed=0
 for kind in deep wide array definitions; do
     doubling run "$kind" || failed=1
