@@ -15,6 +15,8 @@ mod laws;
 mod lowering;
 mod reducible;
 mod reducing;
+#[cfg(test)]
+mod reduction_tests;
 mod source;
 mod status;
 mod texts;
@@ -26,3 +28,6 @@ pub use laws::one_answer;
 pub use source::check_source;
 pub use status::Status;
 pub use top::remora;
+
+#[cfg(test)]
+mod tests;
