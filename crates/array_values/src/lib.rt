@@ -5,8 +5,6 @@ mod array;
 mod index_value;
 mod list;
 mod shared;
-#[cfg(test)]
-mod tests;
 mod value;
 
 pub use array::{Array, ArrayOf, MakeRefusal, forms, make};

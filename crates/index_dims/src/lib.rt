@@ -5,8 +5,6 @@ mod counting;
 mod equal;
 mod norm;
 mod refusal;
-#[cfg(test)]
-mod tests;
 
 /// A linear form: a constant, and how often each variable is added to it.
 pub use core_syntax::NormDim as Linear;

@@ -3,8 +3,6 @@
 
 mod kinds;
 mod sorts;
-#[cfg(test)]
-mod tests;
 
 pub use kinds::{KindRefusal, kind_of, kind_within};
 pub use sorts::{SortDiffers, sort_of, sort_within};

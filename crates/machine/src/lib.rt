@@ -5,7 +5,5 @@ mod cells;
 mod running;
 mod state;
 mod stepping;
-#[cfg(test)]
-mod tests;
 
 pub use running::{Machine, Outcome, load};

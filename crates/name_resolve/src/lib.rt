@@ -22,5 +22,3 @@ pub use errors::NameRefusal;
 pub use laws::{one_meaning, refusal_numbers};
 pub use top::resolve;
 
-#[cfg(test)]
-mod tests;

@@ -8,5 +8,3 @@ mod types;
 pub use names::prim;
 pub use types::type_of;
 
-#[cfg(test)]
-mod tests;

@@ -15,8 +15,6 @@ mod laws;
 mod lowering;
 mod reducible;
 mod reducing;
-#[cfg(test)]
-mod reduction_tests;
 mod source;
 mod status;
 mod texts;
@@ -29,5 +27,3 @@ pub use source::check_source;
 pub use status::Status;
 pub use top::remora;
 
-#[cfg(test)]
-mod tests;

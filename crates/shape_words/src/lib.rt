@@ -4,8 +4,6 @@
 mod equal;
 mod joining;
 mod norm;
-#[cfg(test)]
-mod tests;
 
 /// A word: letters in order, each a linear form or a Shape variable.
 pub use core_syntax::NormShape as Word;

@@ -37,5 +37,3 @@ pub use laws::{accepted_is_typed, refusals_of_programs};
 pub use refusal::TypeRefusal;
 pub use synthesis::synth;
 
-#[cfg(test)]
-mod tests;

@@ -13,8 +13,6 @@ mod same_index;
 mod same_type;
 mod show;
 mod tables;
-#[cfg(test)]
-mod tests;
 mod tree;
 
 pub use inner::same_part;

@@ -3,7 +3,5 @@
 
 mod arrays;
 mod plain;
-#[cfg(test)]
-mod tests;
 
 pub use arrays::show;
