@@ -1,0 +1,6 @@
+pub mod Reduces
+pub mod Contexts
+pub mod Rests
+pub mod Collapsed
+pub mod ScalarSteps
+pub mod PlaceSteps
