@@ -1,4 +1,4 @@
-use Rattle.erasure.proofs.Bounded.MeasuredTerms.{program_fits}
+use Rattle.erasure.proofs.bounded.MeasuredTerms.{program_fits}
 use Rattle.erasure.proofs.laws.keeps_measures.Goals as goal
 
 pub returns : goal.returns
