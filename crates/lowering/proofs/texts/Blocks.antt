@@ -1,7 +1,7 @@
 -- The blocks of a writable program are those of a code that has a text.
 use Rattle.std.proofs.Common.{◌≡◌, subst, ℕ, suc, ◌+◌, ◌*◌, ◌≤◌, ◌<◌, ◌^◌, arith, List, [], ◌∷◌, ◌++◌, length}
 use Rattle.core_syntax.specs.Lists.{each, Each}
-use Rattle.machine_table.specs.CodeBlocks.{IsInstr, IsBlock, AreBlocks}
+use Rattle.machine_table.specs.CodeBounds.{IsInstr, IsBlock, AreBlocks}
 use Rattle.erasure.specs.Erased.{ErasedTerm}
 use Rattle.erasure.specs.Programs.{ErasedProgram}
 use Rattle.lowering.specs.Lower.{Body, opens, bodies_in, body_code, code_of, def_bodies, behind_defs, inner_bodies, bodies_of, blocks_of}

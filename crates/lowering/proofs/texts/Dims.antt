@@ -6,7 +6,7 @@ use Rattle.core_syntax.specs.Lists.{product, Each}
 use Rattle.core_syntax.specs.Fits.{all_below}
 use Rattle.core_syntax.specs.Made.{DimsOf, DimsOfNone}
 use Rattle.array_values.specs.Forms.{Forms, cells}
-use Rattle.machine_table.specs.CodeBlocks.{IsFilled}
+use Rattle.machine_table.specs.CodeBounds.{IsFilled}
 use Rattle.lowering.proofs.texts.CodeIndices.{all_of}
 
 cells_product : (dims : List ℕ) → cells dims ≡ product dims

@@ -23,8 +23,9 @@ use Rattle.core_syntax.proofs.NormLemmas.{CountsDims, WordIsIn, WordIsIn-norm, A
 use Rattle.core_syntax.proofs.NormTyLemmas.{word_again}
 use Rattle.reduction_laws.proofs.programs.Accepted.{accepted_typed}
 use Rattle.erasure.specs.Programs.{erased_program}
-use Rattle.machine_table.specs.CodeBlocks.{Under, Binds, IsVar, IsLetter, IsShape}
-use Rattle.machine_table.specs.Params.{boxed, under, IsAround, IsParam, AreParams}
+use Rattle.machine_table.specs.Codes.{boxed}
+use Rattle.machine_table.specs.IndexBounds.{Under, under, Binds, IsVar, IsLetter, IsShape}
+use Rattle.machine_table.specs.CodeBounds.{IsAround, IsParam, AreParams}
 use Rattle.lowering.specs.Params.{ty_param, elem_param, params_of}
 use Rattle.lowering.proofs.texts.CodeIndices.{all_of}
 use Rattle.lowering.proofs.texts.NoteWords.{neither, no_large}

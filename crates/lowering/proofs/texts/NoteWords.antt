@@ -26,7 +26,7 @@ use Rattle.core_syntax.proofs.NormLemmas.{CountsDims, CountsDims-norm, WordIsIn,
 use Rattle.core_syntax.proofs.NormTyLemmas.{same_words, same_normal, measure_again, word_again}
 use Rattle.erasure.specs.Erasure.{cell_word, norm_in, norm_by}
 use Rattle.core_syntax.specs.NormPut.{number_letters}
-use Rattle.machine_table.specs.CodeBlocks.{InBlock, IsVar, IsDim, IsLetter, IsCell}
+use Rattle.machine_table.specs.IndexBounds.{InBlock, IsVar, IsDim, IsLetter, IsCell}
 use Rattle.lowering.specs.Writable.{IsNorm}
 use Rattle.lowering.proofs.texts.CodeIndices.{all_of}
 

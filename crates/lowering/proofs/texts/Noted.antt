@@ -20,7 +20,8 @@ use Rattle.core_syntax.proofs.Carries.{expr_premises_carry}
 use Rattle.reduction_laws.proofs.programs.Alikes.{alike_sorts, alike_terms}
 use Rattle.erasure.specs.Erasure.{cell_word, norm_in}
 use Rattle.core_syntax.specs.NormPut.{number_letters}
-use Rattle.machine_table.specs.CodeBlocks.{InBlock, IsLetter, IsCell, AreCells}
+use Rattle.machine_table.specs.IndexBounds.{InBlock, IsLetter, IsCell}
+use Rattle.machine_table.specs.CodeBounds.{AreCells}
 use Rattle.lowering.specs.Writable.{IsNorm}
 use Rattle.lowering.proofs.texts.CodeIndices.{all_of}
 use Rattle.lowering.proofs.texts.NoteWords.{joined_fine, concluded_fine, index_fine, no_large, cell_normal, words_normal, numbers_word}

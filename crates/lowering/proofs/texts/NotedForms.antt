@@ -16,7 +16,8 @@ use Rattle.core_syntax.proofs.Equality.{same-put}
 use Rattle.core_syntax.proofs.Unique.{unique}
 use Rattle.core_syntax.proofs.Formed.{has_formed}
 use Rattle.erasure.specs.Erasure.{er, er_terms, er_cell, er_cells}
-use Rattle.machine_table.specs.CodeBlocks.{IsCell, IsCount}
+use Rattle.machine_table.specs.IndexBounds.{IsCell}
+use Rattle.machine_table.specs.CodeBounds.{IsCount}
 use Rattle.lowering.specs.Writable.{IsNoted, AreNoted, IsCellNoted, AreCellsNoted}
 use Rattle.lowering.proofs.texts.NoteWords.{neither, type_fine, types_fine, no_large, measure_same, shape_same}
 use Rattle.reduction_laws.proofs.programs.NotesRead.{opened, unread, leaf, split}

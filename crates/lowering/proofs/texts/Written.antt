@@ -9,7 +9,7 @@ use Rattle.machine_table.specs.declared.code.Literal.TheVariants as literal
 use Rattle.machine_table.specs.declared.code.Instr.{Instr}
 use Rattle.machine_table.specs.declared.code.Instr.TheVariants.{Const, Box, Room, Frame, App, TypeApp, IndexApp, Unbox}
 use Rattle.machine_table.specs.Indices.{code_index}
-use Rattle.machine_table.specs.CodeBlocks.{IsLiteral, IsConst, IsFilled, IsInstr}
+use Rattle.machine_table.specs.CodeBounds.{IsLiteral, IsConst, IsFilled, IsInstr}
 use Rattle.erasure.specs.Erased.{erased, ErasedTerm}
 use Rattle.lowering.specs.Lower.{Body, opens, terms_open, cell_opens, cells_open, all_base, literals, bodies_in, terms_bodies, cell_bodies, cells_bodies}
 use Rattle.erasure.specs.TermNodes.{term_nodes, terms_nodes, cell_nodes, cells_nodes}
