@@ -4,3 +4,4 @@ pub mod Rests
 pub mod Collapsed
 pub mod ScalarSteps
 pub mod PlaceSteps
+pub mod GoingOn

@@ -1,3 +1,4 @@
+pub mod Writable
 pub mod CodeIndices
 pub mod Sizes
 pub mod Written
@@ -9,3 +10,4 @@ pub mod Noted
 pub mod NotedForms
 pub mod CheckedBlocks
 pub mod InputParams
+pub mod OneProof

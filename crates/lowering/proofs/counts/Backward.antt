@@ -10,7 +10,7 @@ use Rattle.lowering.specs.Lower.{Body, behind_defs, bodies_of, blocks_of}
 use Rattle.lowering.specs.Runs as runs
 use Rattle.lowering.specs.Runs.{Run, Ended, Stopped, GoesOn, Comp}
 use Rattle.lowering.specs.Evals.{with_body, entered, eval, enter_within, evals, evals_on}
-use Rattle.lowering.specs.Laws.{RunsAs, EndedAs, UsesFew}
+use Rattle.lowering.specs.Laws.{CodeRunsAs, EndedAs, UsesFew}
 use Rattle.lowering.proofs.counts.Credit.{Paid, Pays, pays_lost}
 use Rattle.lowering.proofs.counts.Credits.{pays_term}
 use Rattle.lowering.proofs.machine.Lowered.{lowered_runs}
@@ -53,7 +53,7 @@ ended_as {V} R p inputs n o e =
     by (evals_on R p inputs (4 * n + 1)) (lowered_runs R p inputs (4 * n + 1))
     (uses_few R (bodies_of p) (4 * n + 1) (behind_defs (suc (length p.defs)) p.defs) (with_arrays inputs no_env) p.body)
   where
-    by : (r : Run (Arrayed V)) → RunsAs R p inputs r → UsesFew (4 * n + 1) r → EndedAs n o r
+    by : (r : Run (Arrayed V)) → CodeRunsAs R p inputs r → UsesFew (4 * n + 1) r → EndedAs n o r
     by (Ended v used m) h few = ends_once R (blocks_of p) n (suc m) (Goes (start R (blocks_of p) inputs)) o (Done v) e h
     by (Stopped k used m) h few = ends_once R (blocks_of p) n m (Goes (start R (blocks_of p) inputs)) o (Trap k) e h
     by (GoesOn m) h few = h n o (omega arith) e

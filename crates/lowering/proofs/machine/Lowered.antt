@@ -11,7 +11,7 @@ use Rattle.lowering.specs.Lower.{Body, body_at, body_code, behind_defs, bodies_o
 use Rattle.lowering.specs.Runs as runs
 use Rattle.lowering.specs.Runs.{Run, Ended, Stopped, GoesOn, Comp, lost}
 use Rattle.lowering.specs.Evals.{with_body, entered, eval, enter_within, evals_on}
-use Rattle.lowering.specs.Laws.{RunsAs}
+use Rattle.lowering.specs.Laws.{CodeRunsAs}
 use Rattle.lowering.proofs.machine.Continued.{code_alone}
 use Rattle.lowering.proofs.machine.Follows.{Follows, Simulates, from_add, sim_lost}
 use Rattle.lowering.proofs.machine.Simulates.{EntersWell}
@@ -96,10 +96,10 @@ module _ {V : Type 0} (R : ValueRules V) (p : ErasedProgram) (inputs : List (Arr
       sim_body R (blocks_of p) (enter_within R (bodies_of p) k) (enters_well R (bodies_of p) k) (body_at (behind_defs (suc (length p.defs)) p.defs) p.body) (with_arrays inputs no_env) []
 
   -- the code's run agrees with the evaluation, within each budget
-  pub lowered_runs : (k : ℕ) → RunsAs R p inputs (evals_on R p inputs k)
+  pub lowered_runs : (k : ℕ) → CodeRunsAs R p inputs (evals_on R p inputs k)
   lowered_runs k = ends (evals_on R p inputs k) ((main_runs k).within k)
     where
-      ends : (r : Run (Arrayed V)) → Follows R (blocks_of p) (start R (blocks_of p) inputs) Behind r → RunsAs R p inputs r
+      ends : (r : Run (Arrayed V)) → Follows R (blocks_of p) (start R (blocks_of p) inputs) Behind r → CodeRunsAs R p inputs r
       ends (Ended v used n) h =
           let one : n + 1 ≡ suc n = omega arith in
           subst (λ j. from R (blocks_of p) j (Goes (start R (blocks_of p) inputs)) ≡ Some (Stops (Done v))) one

@@ -6,7 +6,7 @@ use Rattle.erasure.specs.Erased.{ErasedTerm}
 use Rattle.erasure.specs.Programs.{ErasedProgram}
 use Rattle.lowering.specs.Lower.{Body, opens, bodies_in, body_code, code_of, def_bodies, behind_defs, inner_bodies, bodies_of, blocks_of}
 use Rattle.erasure.specs.TermNodes.{term_nodes, defs_nodes, program_nodes}
-use Rattle.lowering.specs.Writable.{IsWritable, IsProgramWritable}
+use Rattle.lowering.proofs.texts.Writable.{IsWritable, IsProgramWritable}
 use Rattle.lowering.proofs.counts.ProgramBound.{each_join, a_node}
 use Rattle.lowering.proofs.Placed.{opens_are, length_join}
 use Rattle.lowering.proofs.trees.Outputs.{each_many}

@@ -17,7 +17,7 @@ use Rattle.erasure.specs.Programs.{erased_program}
 use Rattle.erasure.proofs.Counted.{keeps_nodes}
 use Rattle.machine_table.specs.declared.code.Literal.TheVariants as literal
 use Rattle.machine_table.specs.CodeBounds.{IsChar, IsLiteral}
-use Rattle.lowering.specs.Writable.{IsWritable, AreWritable, IsCellWritable, AreCellsWritable, IsProgramWritable, IsNoted, AreNoted, IsCellNoted, AreCellsNoted, IsProgramNoted}
+use Rattle.lowering.proofs.texts.Writable.{IsWritable, AreWritable, IsCellWritable, AreCellsWritable, IsProgramWritable, IsNoted, AreNoted, IsCellNoted, AreCellsNoted, IsProgramNoted}
 use Rattle.lowering.proofs.texts.Dims.{filled, empty}
 
 -- ---- counts and literals

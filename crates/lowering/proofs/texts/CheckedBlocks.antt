@@ -12,7 +12,7 @@ use Rattle.core_syntax.specs.Annotate.{annotated, annotated_defs}
 use Rattle.erasure.specs.Erasure.{er}
 use Rattle.erasure.specs.Programs.{erased_program}
 use Rattle.lowering.specs.Laws.{CodeHasText}
-use Rattle.lowering.specs.Writable.{IsNoted, IsProgramNoted, IsProgramWritable}
+use Rattle.lowering.proofs.texts.Writable.{IsNoted, IsProgramNoted, IsProgramWritable}
 use Rattle.reduction_laws.proofs.programs.NotesRead.{unread, split}
 use Rattle.lowering.proofs.texts.NotedForms.{expr_noted}
 use Rattle.lowering.proofs.texts.Checked.{program_writable}
@@ -42,4 +42,4 @@ checked_writable P result inputs notes made c literals = program_writable P note
 
 pub code_has_text : CodeHasText
 code_has_text P result inputs notes made c literals =
-    (checked_params P result inputs notes made c, blocks_written (erased_program P notes) (checked_writable P result inputs notes made c literals))
+    record { params = checked_params P result inputs notes made c; blocks = blocks_written (erased_program P notes) (checked_writable P result inputs notes made c literals) }

@@ -27,7 +27,7 @@ use Rattle.core_syntax.proofs.NormTyLemmas.{same_words, same_normal, measure_aga
 use Rattle.erasure.specs.Erasure.{cell_word, norm_in, norm_by}
 use Rattle.core_syntax.specs.NormPut.{number_letters}
 use Rattle.machine_table.specs.IndexBounds.{InBlock, IsVar, IsDim, IsLetter, IsCell}
-use Rattle.lowering.specs.Writable.{IsNorm}
+use Rattle.lowering.proofs.texts.Writable.{IsNorm}
 use Rattle.lowering.proofs.texts.CodeIndices.{all_of}
 
 -- ---- lists

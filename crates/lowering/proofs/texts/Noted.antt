@@ -22,7 +22,7 @@ use Rattle.erasure.specs.Erasure.{cell_word, norm_in}
 use Rattle.core_syntax.specs.NormPut.{number_letters}
 use Rattle.machine_table.specs.IndexBounds.{InBlock, IsLetter, IsCell}
 use Rattle.machine_table.specs.CodeBounds.{AreCells}
-use Rattle.lowering.specs.Writable.{IsNorm}
+use Rattle.lowering.proofs.texts.Writable.{IsNorm}
 use Rattle.lowering.proofs.texts.CodeIndices.{all_of}
 use Rattle.lowering.proofs.texts.NoteWords.{joined_fine, concluded_fine, index_fine, no_large, cell_normal, words_normal, numbers_word}
 

@@ -18,7 +18,7 @@ use Rattle.core_syntax.proofs.Formed.{has_formed}
 use Rattle.erasure.specs.Erasure.{er, er_terms, er_cell, er_cells}
 use Rattle.machine_table.specs.IndexBounds.{IsCell}
 use Rattle.machine_table.specs.CodeBounds.{IsCount}
-use Rattle.lowering.specs.Writable.{IsNoted, AreNoted, IsCellNoted, AreCellsNoted}
+use Rattle.lowering.proofs.texts.Writable.{IsNoted, AreNoted, IsCellNoted, AreCellsNoted}
 use Rattle.lowering.proofs.texts.NoteWords.{neither, type_fine, types_fine, no_large, measure_same, shape_same}
 use Rattle.reduction_laws.proofs.programs.NotesRead.{opened, unread, leaf, split}
 use Rattle.lowering.proofs.texts.Noted.{onto_count, same_count, args_met, pi_met, sigma_met, indices_fine, box_met, result_fine, whole_fine, note_fine, cells_fine}

@@ -13,7 +13,7 @@ use Rattle.machine_table.specs.CodeBounds.{IsLiteral, IsConst, IsFilled, IsInstr
 use Rattle.erasure.specs.Erased.{erased, ErasedTerm}
 use Rattle.lowering.specs.Lower.{Body, opens, terms_open, cell_opens, cells_open, all_base, literals, bodies_in, terms_bodies, cell_bodies, cells_bodies}
 use Rattle.erasure.specs.TermNodes.{term_nodes, terms_nodes, cell_nodes, cells_nodes}
-use Rattle.lowering.specs.Writable.{IsWritable, AreWritable, IsCellWritable, AreCellsWritable}
+use Rattle.lowering.proofs.texts.Writable.{IsWritable, AreWritable, IsCellWritable, AreCellsWritable}
 use Rattle.lowering.proofs.machine.Continued.{array_then, code_then, terms_then, cell_then, cells_then}
 use Rattle.lowering.proofs.texts.CodeIndices.{all_of, are_indices}
 use Rattle.lowering.proofs.counts.ProgramBound.{each_join}
