@@ -6,6 +6,7 @@ pub mod Blame
 pub mod Checks
 pub mod Data
 pub mod Delta
+pub mod DeltaStuck
 pub mod Fits
 pub mod Held
 pub mod Kinds
@@ -18,6 +19,7 @@ pub mod MadeProps
 pub mod Move
 pub mod Nodes
 pub mod Norm
+pub mod NormPut
 pub mod NormTypes
 pub mod NormValue
 pub mod Notes
