@@ -106,3 +106,17 @@ greatest_is f gs e = found (f ∷ gs) (longest f gs) (longest_among f gs) e (f �
 -- else there is none
 pub no_greatest : (f : List ℕ) (gs : List (List ℕ)) → all_prefixes (f ∷ gs) (longest f gs) ≡ false → greatest (f ∷ gs) ≡ None
 no_greatest f gs e = none (f ∷ gs) (longest f gs) (longest_among f gs) e (f ∷ gs) (longest_first f gs, longest_within f gs)
+
+-- with the tests of a prefix that were made
+module _ (f r : List ℕ) (gs : List (List ℕ)) (at : r ≡ longest f gs) where
+  all_are : (b : Bool) → (is_prefix f r && all_prefixes gs r) ≡ b → all_prefixes (f ∷ gs) (longest f gs) ≡ b
+  all_are b e = ap (all_prefixes (f ∷ gs)) (sym at) ∙ e
+
+  pub greatest_found : is_prefix f r ≡ true → all_prefixes gs r ≡ true → greatest (f ∷ gs) ≡ Some r
+  greatest_found first others = greatest_is f gs (all_are true (ap (λ (b : Bool). b && all_prefixes gs r) first ∙ others)) ∙ ap Some (sym at)
+
+  pub other_first : is_prefix f r ≡ false → greatest (f ∷ gs) ≡ None
+  other_first first = no_greatest f gs (all_are false (ap (λ (b : Bool). b && all_prefixes gs r) first))
+
+  pub other_later : is_prefix f r ≡ true → all_prefixes gs r ≡ false → greatest (f ∷ gs) ≡ None
+  other_later first others = no_greatest f gs (all_are false (ap (λ (b : Bool). b && all_prefixes gs r) first ∙ others))

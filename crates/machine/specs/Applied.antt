@@ -57,6 +57,11 @@ pub record IsFrame (F : List ℕ) : Type 0 where
   pub rank : length F ≤ 64
   pub each : All (λ d. d < 2 ^ 32) F
 
+-- A frame of as many places as an array may have, and of some.
+pub record HasPlaces (a : Argument) : Type 0 where
+  pub some : 0 < product (frame_of a)
+  pub few : product (frame_of a) ≤ 2 ^ 24
+
 -- an argument over a frame of so many places
 abbrev pub placed : ℕ → Argument → Argument
 placed count a = record { array = a.array; rank = a.rank; repeat = count / product (frame_of a) }
