@@ -23,7 +23,7 @@ invariant_of-result c =
         forms = frame_forms c.args.frame.items c.args.count c.requires.frame c.requires.count c.requires.few;
         fits = record {
           arguments = start_arguments c.args.frame.items c.args.count c.requires.count c.requires.some c.args.function c.placed-function.result c.args.arguments.items _ c.requires.prefix c.requires.function c.requires.prefixes c.requires.arguments
-            c.placed-function.ensures (kept_items (placed c.args.count) c.args.arguments.len c.place_all.new.arguments c.deref_mut.result.now c.args.arguments.items size c.place_all.ensures c.deref_mut.ensures.value);
+              c.placed-function.ensures (kept_items (placed c.args.count) c.args.arguments.len c.place_all.new.arguments c.deref_mut.result.now c.args.arguments.items size c.place_all.ensures c.deref_mut.ensures.value);
           functions = All-cons (λ f. f.rank ≡ 0) c.placed-function.result [] (ap (λ f. f.rank) c.placed-function.ensures ∙ c.requires.whole) (All-nil (λ f. f.rank ≡ 0));
           entered = All-nil (λ a. length a.atoms ≡ c.args.count);
         };

@@ -26,9 +26,9 @@ loop-rest-preserved c =
     record {
       front = front_more S all rest before c.cell-item.result split c.loop-rest.invariant.front;
       popped = pop_more (length rest) (length before) c.loop-rest.arguments.items c.push.new.self.items c.in-Some.argument c.loop-rest.left.items c.next_argument.new.operands.items
-        (count_more S all rest before c.cell-item.result split c.loop-rest.invariant.front) (found_popped c.in_ok-argument.field-0 c.in-Some.argument c.in-Some.own c.in-Some.is c.loop-rest.left.items c.next_argument.new.operands.items c.in_ok-argument.ensures.some) pushed ∙ c.loop-rest.invariant.popped;
+          (count_more S all rest before c.cell-item.result split c.loop-rest.invariant.front) (found_popped c.in_ok-argument.field-0 c.in-Some.argument c.in-Some.own c.in-Some.is c.loop-rest.left.items c.next_argument.new.operands.items c.in_ok-argument.ensures.some) pushed ∙ c.loop-rest.invariant.popped;
       fits = fits_more c.in_ok-argument.field-0 c.in-Some.argument c.in-Some.own c.in-Some.is S all rest before c.cell-item.result split c.loop-rest.invariant.front c.loop-rest.arguments.items c.push.new.self.items c.loop-rest.fit c.both_fit-fit.result
-        c.in_ok-argument.ensures.array c.in_ok-argument.ensures.fit pushed c.both_fit-fit.ensures c.loop-rest.invariant.fits;
+          c.in_ok-argument.ensures.array c.in_ok-argument.ensures.fit pushed c.both_fit-fit.ensures c.loop-rest.invariant.fits;
     }
 
 pub returns : goal.returns
@@ -38,5 +38,5 @@ returns c =
     record {
       taken = all_taken (length c.loop-rest.rest.now) (length c.args.cells.now) c.loop-rest.arguments.items c.reverse.new.self.items c.loop-rest.left.items c.args.operands.items none back c.loop-rest.invariant.popped;
       fit = subst (Fitting c.loop-rest.fit (each (shape_under (each index_data c.args.indices.now)) c.args.cells.now)) (sym back)
-        (subst (λ (n : ℕ). Fitting c.loop-rest.fit (drop n (each (shape_under (each index_data c.args.indices.now)) c.args.cells.now)) (reverse c.loop-rest.arguments.items)) none c.loop-rest.invariant.fits);
+          (subst (λ (n : ℕ). Fitting c.loop-rest.fit (drop n (each (shape_under (each index_data c.args.indices.now)) c.args.cells.now)) (reverse c.loop-rest.arguments.items)) none c.loop-rest.invariant.fits);
     }
