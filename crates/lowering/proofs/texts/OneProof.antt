@@ -1,10 +1,11 @@
 -- That a code keeps what it keeps is a fact with one proof.
-use Rattle.std.proofs.Common.{◌≡◌, ◌⊎◌, inl, inr, ℕ, zero, suc, ◌<◌, arith, List, [], ◌∷◌, length}
+use Rattle.std.proofs.Common.{◌≡◌, ◌⊎◌, inl, inr, ℕ, zero, suc, ◌+◌, ◌<◌, ◌≤◌, ◌^◌, arith, List, [], ◌∷◌, length}
 use Rattle.std.specs.Prelude.{pos, negsuc, slice_index_or}
 use Rattle.std.specs.Coded.{×_prop, le_prop, Unit-prop, Coded-set, coded_ℕ}
 use Rattle.std.specs.List.{All}
 use mathlib.Core.HLevel.{×₃_prop}
 use Rattle.core_syntax.specs.declared.index.Sort.{Sort}
+use Rattle.core_syntax.specs.declared.index.Sort.TheVariants as sort
 use Rattle.core_syntax.specs.contracts.index.Sort.{the_row}
 use Rattle.core_syntax.specs.declared.norm.Coef.{Coef}
 use Rattle.core_syntax.specs.declared.norm.Letter.{Letter}
@@ -35,7 +36,7 @@ all_prop P p xs u v = λ i k d small. p (slice_index_or xs k d) (u k d small) (v
 -- ---- indices
 
 binds_prop : (s : Sort) (bs : List Sort) (k : ℕ) → IsProp (Binds s bs k)
-binds_prop s [] k a b = absurd a
+binds_prop s [] k = λ a b. absurd a
 binds_prop s (b ∷ bs) zero = Coded-set the_row.coded b s
 binds_prop s (b ∷ bs) (suc k) = binds_prop s bs k
 
@@ -50,13 +51,13 @@ ascending_prop low (c ∷ cs) = ×₃_prop le_prop le_prop (ascending_prop (c.va
 dim_prop : (scope : Scope) (d : Linear) → IsProp (IsDim scope d)
 dim_prop scope d u v = λ i. record {
   normal = ascending_prop 0 d.coefs u.normal v.normal i;
-  vars = all_prop _ (λ (c : Coef). var_prop scope _ c.var) d.coefs u.vars v.vars i;
+  vars = all_prop (λ (c : Coef). IsVar scope sort.Dim c.var) (λ (c : Coef). var_prop scope sort.Dim c.var) d.coefs u.vars v.vars i;
   small = le_prop u.small v.small i;
 }
 
 letter_prop : (scope : Scope) (l : Letter) → IsProp (IsLetter scope l)
 letter_prop scope (letter.Dim d) = dim_prop scope d
-letter_prop scope (letter.Var k) = var_prop scope _ k
+letter_prop scope (letter.Var k) = var_prop scope sort.Shape k
 
 shape_prop : (scope : Scope) (w : Word) → IsProp (IsShape scope w)
 shape_prop scope w = all_prop (IsLetter scope) (letter_prop scope) w
@@ -81,7 +82,7 @@ literal_prop (literal.Bool b) = Unit-prop
 literal_prop (literal.Char c) = char_prop c
 
 forms_prop : (dims : List ℕ) → IsProp (Forms dims)
-forms_prop dims u v = λ i. record { rank = le_prop u.rank v.rank i; each = all_prop _ (λ d. le_prop) dims u.each v.each i; few = le_prop u.few v.few i }
+forms_prop dims u v = λ i. record { rank = le_prop u.rank v.rank i; each = all_prop (λ d. d < 2 ^ 32) (λ d. le_prop {n = suc d} {m = 2 ^ 32}) dims u.each v.each i; few = le_prop u.few v.few i }
 
 const_prop : (dims : List ℕ) (atoms : List Literal) → IsProp (IsConst dims atoms)
 const_prop dims atoms u v = λ i. record {
@@ -133,7 +134,7 @@ hidden_prop binders sorts u v = λ i. record { some = le_prop u.some v.some i; f
 
 around_prop : (depth : ℕ) (binders : List Sort) (xs : List Boxes) (shape : Word) → IsProp (IsAround depth binders xs shape)
 around_prop depth binders [] shape = shape_prop (Under binders) shape
-around_prop zero binders (x ∷ xs) shape a b = absurd a
+around_prop zero binders (x ∷ xs) shape = λ a b. absurd a
 around_prop (suc depth) binders (x ∷ xs) shape = ×₃_prop (hidden_prop binders x.sorts) (around_prop depth (under x.sorts binders) xs shape) (shape_prop (Under binders) x.shape)
 
 params_prop : (ps : List Param) → IsProp (AreParams ps)
