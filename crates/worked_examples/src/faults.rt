@@ -22,6 +22,11 @@ fn reads_to_the_end(rt: HostRuntime) -> Result<(), Fail> {
         read_all(alloc, &mut failing, 6).err(),
         Some(ReadRefusal::ReadFault)
     );
+    // No read came behind the one that failed.
+    assert_eq!(rt;
+        read_all(alloc, &mut failing, 6)?.as_slice(),
+        b"ra".as_slice()
+    );
     let mut adapted = ReadSource::new(remora);
     assert_eq!(rt; read_all(alloc, &mut adapted, 6)?.as_slice(), remora);
     Ok(())
