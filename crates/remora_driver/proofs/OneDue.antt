@@ -14,7 +14,7 @@ use Rattle.core_syntax.specs.Start.{def_terms, start_term, Reaches, SourceTraps,
 use Rattle.core_syntax.specs.Typed.{typed_rules, TypedTerm}
 use Rattle.array_values.specs.Data.{array_data}
 use Rattle.array_values.specs.Values.{Array}
-use Rattle.typed_step.proofs.Once.{one_value, one_trap, not_both}
+use Rattle.reduction_laws.proofs.runs.Once.{one_value, one_trap, not_both}
 use Rattle.value_text.specs.ValueText.{array_text}
 use Rattle.value_text.proofs.DataTexts.{text_by_data}
 use Rattle.core_syntax.specs.Syntax.{Ty, Program}

@@ -28,7 +28,7 @@ use Rattle.typed_step.specs.declared.closed.Closed.{Closed}
 use Rattle.typed_step.specs.declared.closed.Next.{Next}
 use Rattle.typed_step.specs.declared.closed.Next.TheVariants as next
 use Rattle.typed_step.specs.Steps.{Reduced}
-use Rattle.typed_step.proofs.Results.{reaches_data}
+use Rattle.reduction_laws.proofs.runs.Results.{reaches_data}
 use Rattle.remora_driver.specs.declared.answer.Reply.{Reply}
 use Rattle.remora_driver.specs.declared.calls.Answer.{Answer as Given}
 use Rattle.remora_driver.specs.declared.calls.Answer.TheVariants as given

@@ -26,4 +26,3 @@ pub use laws::one_answer;
 pub use source::check_source;
 pub use status::Status;
 pub use top::remora;
-
