@@ -1,8 +1,9 @@
 -- Primitives of scalars, where they lack nothing and where they are wrong, as the machine's table has them.
-use Rattle.std.proofs.Common.{◌≡◌, ◌≢◌, refl, ap, ◌∙◌, sym, arith, ℕ, ℤ, length, List, [], ◌∷◌, Option, Some, None, Bool, true, false}
+use Rattle.std.proofs.Common.{◌≡◌, ◌≢◌, refl, ap, ◌∙◌, sym, arith, ℕ, ℤ, length, List, [], ◌∷◌, Option, Some, None, Bool, true, false, Result, Ok, Err, IfOk}
 use Rattle.std.specs.Prelude.{◌+ℤ◌, ◌-ℤ◌, ◌*ℤ◌, int_lt, int_le, ◌&&◌, ◌||◌, ◌==◌, nat_lt, if◌then◌else◌, is_some}
 use Rattle.std.proofs.lemmas.Bool.{eq-eqb}
 use Rattle.std.proofs.lemmas.Bool.Decides.{nat_tests}
+use Rattle.core_syntax.specs.declared.errors.Memory.{Memory}
 use Rattle.core_syntax.specs.declared.errors.StuckKind.{StuckKind}
 use Rattle.core_syntax.specs.declared.errors.StuckKind.TheVariants as stuck
 use Rattle.core_syntax.specs.declared.primitive.Primitive.{Primitive}
@@ -17,10 +18,11 @@ use Rattle.core_syntax.specs.Rules.{has_types, has_indices, agrees}
 use Rattle.core_syntax.specs.Terms.{IndexValue}
 use Rattle.array_values.specs.Values.{Array}
 use Rattle.array_values.specs.declared.value.Value.{Value}
-use Rattle.machine_table.specs.Begins.{Entry, Refuses, answer_entry, prim_entry}
-use Rattle.machine_table.specs.ValueRules.{value_rules}
-use Rattle.prim_kernels.specs.Deltas.{has_variables}
-use Rattle.prim_kernels.specs.Kernels.{machine_atoms}
+use Rattle.machine_table.specs.Begins.{Entry, Refuses, Answers, answer_entry}
+use Rattle.prim_kernels.specs.Deltas.{entry_of, has_variables}
+use Rattle.prim_kernels.specs.declared.answers.Delta.{Delta}
+use Rattle.prim_kernels.specs.declared.answers.Delta.TheVariants as given
+use Rattle.prim_kernels.specs.Kernels.{look_at, machine_atoms}
 
 -- what the table says by a test of the kinds alone
 abbrev by_kind : Bool → Answer Value → Entry Value
@@ -55,13 +57,14 @@ a_negation _ = refl
 
 -- ---- a primitive of scalars without arguments of types or indices, on as many scalars as its row has inputs
 
-abbrev seen : Value → Look
-seen x = machine_atoms.look x
+-- what the table says of it
+abbrev pub table_says : Primitive → List Array → Entry Value
+table_says q xs = elim (delta_stuck machine_atoms q false None xs) as (λ o. Entry Value) [ Some k ↦ Refuses k | None ↦ answer_entry (delta machine_atoms q [] xs) ]
 
-pub one_comes : (q : Primitive) → has_variables q ≡ false → length (row_inputs (prim_type q)) ≡ 1 → (x : Value) → prim_entry value_rules q false None (single x ∷ []) ≡ answer_entry (delta machine_atoms q [] (single x ∷ []))
-one_comes p.CharToInt h n x = a_char (seen x)
-one_comes p.BoolToInt h n x = a_bool (seen x)
-one_comes p.Not h n x = a_negation (seen x)
+pub one_comes : (q : Primitive) → has_variables q ≡ false → length (row_inputs (prim_type q)) ≡ 1 → (x : Value) → table_says q (single x ∷ []) ≡ answer_entry (delta machine_atoms q [] (single x ∷ []))
+one_comes p.CharToInt h n x = a_char (look_at x)
+one_comes p.BoolToInt h n x = a_bool (look_at x)
+one_comes p.Not h n x = a_negation (look_at x)
 one_comes p.Add h n x = absurd (let f : ⊥ = omega (arith, n) in f)
 one_comes p.Sub h n x = absurd (let f : ⊥ = omega (arith, n) in f)
 one_comes p.Mul h n x = absurd (let f : ⊥ = omega (arith, n) in f)
@@ -79,21 +82,21 @@ one_comes p.Or h n x = absurd (let f : ⊥ = omega (arith, n) in f)
 one_comes _ h n x = absurd (let f = h in cc)
 
 pub two_come : (q : Primitive) → has_variables q ≡ false → length (row_inputs (prim_type q)) ≡ 2 → (x y : Value)
-    → prim_entry value_rules q false None (single x ∷ single y ∷ []) ≡ answer_entry (delta machine_atoms q [] (single x ∷ single y ∷ []))
-two_come p.Add h n x y = both_ints (λ a b. d.gives_int machine_atoms (a +ℤ b)) (seen x) (seen y)
-two_come p.Sub h n x y = both_ints (λ a b. d.gives_int machine_atoms (a -ℤ b)) (seen x) (seen y)
-two_come p.Mul h n x y = both_ints (λ a b. d.gives_int machine_atoms (a *ℤ b)) (seen x) (seen y)
-two_come p.Div h n x y = both_ints (d.quotient machine_atoms) (seen x) (seen y)
-two_come p.Mod h n x y = both_ints (d.remainder machine_atoms) (seen x) (seen y)
-two_come p.Min h n x y = both_ints (λ a b. d.gives_int machine_atoms (if int_le a b then a else b)) (seen x) (seen y)
-two_come p.Max h n x y = both_ints (λ a b. d.gives_int machine_atoms (if int_le a b then b else a)) (seen x) (seen y)
-two_come p.Equal h n x y = both_ints (λ a b. d.gives_bool machine_atoms (same_int a b)) (seen x) (seen y)
-two_come p.Less h n x y = both_ints (λ a b. d.gives_bool machine_atoms (int_lt a b)) (seen x) (seen y)
-two_come p.AtMost h n x y = both_ints (λ a b. d.gives_bool machine_atoms (int_le a b)) (seen x) (seen y)
-two_come p.CharEqual h n x y = both_chars (λ a b. d.gives_bool machine_atoms (a == b)) (seen x) (seen y)
-two_come p.CharLess h n x y = both_chars (λ a b. d.gives_bool machine_atoms (nat_lt a b)) (seen x) (seen y)
-two_come p.And h n x y = both_bools (λ a b. d.gives_bool machine_atoms (a && b)) (seen x) (seen y)
-two_come p.Or h n x y = both_bools (λ a b. d.gives_bool machine_atoms (a || b)) (seen x) (seen y)
+    → table_says q (single x ∷ single y ∷ []) ≡ answer_entry (delta machine_atoms q [] (single x ∷ single y ∷ []))
+two_come p.Add h n x y = both_ints (λ a b. d.gives_int machine_atoms (a +ℤ b)) (look_at x) (look_at y)
+two_come p.Sub h n x y = both_ints (λ a b. d.gives_int machine_atoms (a -ℤ b)) (look_at x) (look_at y)
+two_come p.Mul h n x y = both_ints (λ a b. d.gives_int machine_atoms (a *ℤ b)) (look_at x) (look_at y)
+two_come p.Div h n x y = both_ints (d.quotient machine_atoms) (look_at x) (look_at y)
+two_come p.Mod h n x y = both_ints (d.remainder machine_atoms) (look_at x) (look_at y)
+two_come p.Min h n x y = both_ints (λ a b. d.gives_int machine_atoms (if int_le a b then a else b)) (look_at x) (look_at y)
+two_come p.Max h n x y = both_ints (λ a b. d.gives_int machine_atoms (if int_le a b then b else a)) (look_at x) (look_at y)
+two_come p.Equal h n x y = both_ints (λ a b. d.gives_bool machine_atoms (same_int a b)) (look_at x) (look_at y)
+two_come p.Less h n x y = both_ints (λ a b. d.gives_bool machine_atoms (int_lt a b)) (look_at x) (look_at y)
+two_come p.AtMost h n x y = both_ints (λ a b. d.gives_bool machine_atoms (int_le a b)) (look_at x) (look_at y)
+two_come p.CharEqual h n x y = both_chars (λ a b. d.gives_bool machine_atoms (a == b)) (look_at x) (look_at y)
+two_come p.CharLess h n x y = both_chars (λ a b. d.gives_bool machine_atoms (nat_lt a b)) (look_at x) (look_at y)
+two_come p.And h n x y = both_bools (λ a b. d.gives_bool machine_atoms (a && b)) (look_at x) (look_at y)
+two_come p.Or h n x y = both_bools (λ a b. d.gives_bool machine_atoms (a || b)) (look_at x) (look_at y)
 two_come p.CharToInt h n x y = absurd (let f : ⊥ = omega (arith, n) in f)
 two_come p.BoolToInt h n x y = absurd (let f : ⊥ = omega (arith, n) in f)
 two_come p.Not h n x y = absurd (let f : ⊥ = omega (arith, n) in f)
@@ -141,3 +144,9 @@ has_given q typed is h g = (λ i. agrees (plain_types q h i) typed && agrees (pl
     by true b g = refl
     by false true g = refl
     by false false g = absurd (let e = g in cc)
+
+-- ---- arrays that are given
+
+pub value_entry : (r : Result Delta Memory) (a : Array) (e : Entry Value) → IfOk r (λ d. d ≡ given.Value a) → Answers a ≡ e → IfOk r (λ d. entry_of d ≡ e)
+value_entry (Ok d) a e h g = ap entry_of h ∙ g
+value_entry (Err m) a e h g = tt

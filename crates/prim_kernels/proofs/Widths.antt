@@ -9,6 +9,14 @@ pub cut_once : (n M most : ℕ) → most ≤ M → min (min n M) most ≡ min n 
 cut_once n M most h = omega (arith, h)
 
 module _ {A : Type 0} where
+  pub take_nothing : (n : ℕ) → take {A = A} n [] ≡ []
+  take_nothing zero = refl
+  take_nothing (suc n) = refl
+
+  pub drop_nothing : (n : ℕ) → drop {A = A} n [] ≡ []
+  drop_nothing zero = refl
+  drop_nothing (suc n) = refl
+
   drop_past : (xs : List A) (n : ℕ) → length xs ≤ n → drop n xs ≡ []
   drop_past [] zero h = refl
   drop_past [] (suc n) h = refl
@@ -21,7 +29,7 @@ module _ {A : Type 0} where
     where
       by : (n < length xs) ⊎ (length xs ≤ n) → take m xs ≡ take n xs
       by (inl lt) = ap (λ k. take k xs) (let e : m ≡ n = omega (arith, h, lt) in e)
-      by (inr le) = take_all xs m (omega (arith, h, le)) ∙ sym (take_all xs n le)
+      by (inr le) = take_all m xs (omega (arith, h, le)) ∙ sym (take_all n xs le)
 
   pub drop_cut : (xs : List A) (n m : ℕ) → m ≡ min n (length xs) → drop m xs ≡ drop n xs
   drop_cut xs n m h = by (cases_lt n (length xs))
