@@ -16,4 +16,4 @@ returns-in_ok-begun-in-Some c = λ blocks.
     answer_same c.begin.result (next_of blocks) _ _ (c.begin.ensures blocks)
     (ap (λ b. table.begun b (rest_of blocks left) left.env (reverse left.operands.items) (below_of blocks c.args.below.items))
     (c.in_ok-begun-in-Some.ensures ∙ ap (λ is. begins.app_begun is c.args.cells.now c.args.result_cell.now c.in-Some.function xs) c.indices.ensures)
-    ∙ topped blocks c.args.run left c.in-Some.function (λ rest env f ops. table.begun (begins.app_begun env.indices c.args.cells.now c.args.result_cell.now f xs) rest env ops (below_of blocks c.args.below.items)) c.top.ensures.some)
+    ∙ topped blocks c.args.run left c.in-Some.function (λ rest env f ops. table.begun (begins.app_begun env.indices c.args.cells.now c.args.result_cell.now f xs) rest env ops (below_of blocks c.args.below.items)) c.in-Some.ensures.some)
