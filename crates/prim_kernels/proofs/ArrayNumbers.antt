@@ -4,7 +4,7 @@ use Rattle.core_syntax.specs.declared.primitive.Primitive.{Primitive}
 use Rattle.core_syntax.specs.declared.primitive.Primitive.TheVariants as p
 use Rattle.core_syntax.specs.Terms.{IndexValue}
 use Rattle.core_syntax.specs.Arrays.{Arrayed}
-use Rattle.core_syntax.specs.Answer.{AtomRules, Answer, Unfit}
+use Rattle.core_syntax.specs.Answer.{AtomRules, Unfit}
 use Rattle.core_syntax.specs.Delta.{delta}
 use Rattle.prim_kernels.specs.Kernels.{MakesArrays}
 

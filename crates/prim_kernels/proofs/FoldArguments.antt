@@ -1,5 +1,5 @@
 -- The arguments of folds.
-use Rattle.std.proofs.Common.{◌≡◌, ◌≢◌, refl, ap, ◌∙◌, ◌≤◌, arith, length, get_or, List, [], ◌∷◌, Option, Some, None}
+use Rattle.std.proofs.Common.{◌≡◌, ◌≢◌, refl, length, List, [], ◌∷◌}
 use Rattle.core_syntax.specs.declared.primitive.Primitive.TheVariants as p
 use Rattle.core_syntax.specs.Terms.{IndexValue}
 use Rattle.core_syntax.specs.Arrays.{Arrayed}

@@ -2,7 +2,6 @@
 use Rattle.std.proofs.Common.{◌≡◌, ◌∙◌, ap, sym, List, Option, Some, None, Bool}
 use Rattle.core_syntax.specs.declared.errors.StuckKind.{StuckKind}
 use Rattle.core_syntax.specs.declared.primitive.Primitive.{Primitive}
-use Rattle.core_syntax.specs.Answer.{AtomRules}
 use Rattle.core_syntax.specs.Delta.{delta}
 use Rattle.core_syntax.specs.DeltaStuck.{delta_stuck, given_values}
 use Rattle.core_syntax.specs.Terms.{IndexValue}

@@ -1,5 +1,5 @@
 -- Primitives of scalars: functions of one look or of two, that answer one scalar or two.
-use Rattle.std.proofs.Common.{◌≡◌, ◌≢◌, refl, ap, sym, ◌∙◌, ◌≤◌, arith, length, false, ℕ, List, [], ◌∷◌}
+use Rattle.std.proofs.Common.{◌≡◌, ◌≢◌, refl, sym, ◌∙◌, ◌≤◌, arith, length, false, ℕ, List, [], ◌∷◌}
 use Rattle.std.specs.Prelude.{◌+ℤ◌, ◌-ℤ◌, ◌*ℤ◌, int_lt, int_le, ◌&&◌, ◌||◌, ◌==◌, nat_lt, if◌then◌else◌}
 use Rattle.core_syntax.specs.declared.primitive.Primitive.{Primitive}
 use Rattle.core_syntax.specs.declared.primitive.Primitive.TheVariants as p

@@ -1,14 +1,13 @@
 -- Primitives of scalars, where they lack nothing and where they are wrong, as the machine's table has them.
-use Rattle.std.proofs.Common.{◌≡◌, ◌≢◌, refl, ap, ◌∙◌, sym, arith, ℕ, ℤ, length, List, [], ◌∷◌, Option, Some, None, Bool, true, false, Result, Ok, Err, IfOk}
+use Rattle.std.proofs.Common.{◌≡◌, ◌≢◌, refl, ap, ◌∙◌, arith, ℕ, ℤ, length, List, [], ◌∷◌, Option, Some, None, Bool, true, false, Result, Ok, Err, IfOk}
 use Rattle.std.specs.Prelude.{◌+ℤ◌, ◌-ℤ◌, ◌*ℤ◌, int_lt, int_le, ◌&&◌, ◌||◌, ◌==◌, nat_lt, if◌then◌else◌, is_some}
 use Rattle.std.proofs.lemmas.Bool.{eq-eqb}
 use Rattle.std.proofs.lemmas.Bool.Decides.{nat_tests}
 use Rattle.core_syntax.specs.declared.errors.Memory.{Memory}
-use Rattle.core_syntax.specs.declared.errors.StuckKind.{StuckKind}
 use Rattle.core_syntax.specs.declared.errors.StuckKind.TheVariants as stuck
 use Rattle.core_syntax.specs.declared.primitive.Primitive.{Primitive}
 use Rattle.core_syntax.specs.declared.primitive.Primitive.TheVariants as p
-use Rattle.core_syntax.specs.Arrays.{Arrayed, single}
+use Rattle.core_syntax.specs.Arrays.{single}
 use Rattle.core_syntax.specs.Answer.{Look, AnInt, ABool, AChar, Other, Answer}
 use Rattle.core_syntax.specs.Delta as d
 use Rattle.core_syntax.specs.Delta.{same_int, delta}

@@ -1,8 +1,8 @@
 -- What primitives begin, as the machine's table says it.
-use Rattle.std.specs.Prelude.{◌≡◌, ◌<◌, ◌||◌, ◌++◌, ⊤, Bool, ℕ, List, [], ◌∷◌, length, take, drop, Option, Some, None}
+use Rattle.std.specs.Prelude.{◌≡◌, ◌<◌, ◌||◌, ⊤, Bool, ℕ, List, [], ◌∷◌, length, take, drop, Option, Some, None}
 use Rattle.core_syntax.specs.declared.primitive.Primitive.{Primitive}
 use Rattle.core_syntax.specs.Lists.{each, product}
-use Rattle.core_syntax.specs.Arrays.{Arrayed, array, single, runs}
+use Rattle.core_syntax.specs.Arrays.{array, single, runs}
 use Rattle.core_syntax.specs.Answer as answer
 use Rattle.core_syntax.specs.Rules.{has_types, has_indices}
 use Rattle.array_values.specs.Values.{Array}

@@ -1,4 +1,4 @@
-use Rattle.std.proofs.Common.{◌≡◌, ◌<◌, ◌∙◌, sym, ap, arith, length, [], ◌∷◌}
+use Rattle.std.proofs.Common.{◌≡◌, ◌∙◌, sym, ap, arith, length, [], ◌∷◌}
 use Rattle.prim_kernels.specs.Deltas.{folded}
 use Rattle.prim_kernels.proofs.Items.{sole}
 use Rattle.prim_kernels.proofs.folds.fold_over.Goals as goal

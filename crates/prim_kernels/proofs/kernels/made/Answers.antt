@@ -1,10 +1,10 @@
-use Rattle.std.proofs.Common.{◌≡◌, ◌∙◌, [], ◌∷◌, ap, subst, IfOk}
+use Rattle.std.proofs.Common.{◌≡◌, subst, IfOk}
 use Rattle.core_syntax.specs.Delta.{delta}
 use Rattle.core_syntax.specs.Lists.{each}
 use Rattle.array_values.specs.Envs.{index_data}
 use Rattle.prim_kernels.specs.Kernels.{machine_atoms, made_answer}
 use Rattle.prim_kernels.proofs.Items.{one_item, two_items, three_items}
-use Rattle.prim_kernels.proofs.ArrayNumbers.{none_unfit, others_unfit}
+use Rattle.prim_kernels.proofs.ArrayNumbers.{others_unfit}
 use Rattle.prim_kernels.proofs.kernels.made.Goals as goal
 
 pub returns-in-len1 : goal.returns-in-len1

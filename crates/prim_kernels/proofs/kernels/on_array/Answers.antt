@@ -3,7 +3,6 @@ use Rattle.core_syntax.specs.Delta.{taken, dropped, copied, number_at, delta}
 use Rattle.core_syntax.specs.Lists.{each}
 use Rattle.array_values.specs.Envs.{index_data}
 use Rattle.prim_kernels.specs.Kernels.{machine_atoms, made_answer}
-use Rattle.prim_kernels.proofs.ArrayNumbers.{one_unfit}
 use Rattle.prim_kernels.proofs.kernels.on_array.Goals as goal
 
 pub returns-in-Take : goal.returns-in-Take
