@@ -8,9 +8,9 @@ ghost use Rattle.remora_driver.specs.Jobs.{IsCall, IsJob, longest};
 ghost use Rattle.remora_driver.specs.Sources.{seen};
 ghost use Rattle.remora_driver.specs.Top.{IsTold, IsDueFor, IsAnswer, HaltsFor};
 
-use crate::answer::{Reply, too_long, usage_answer};
 use crate::commands::answer_to;
 use crate::job::{Job, job_of};
+use crate::reply::{Reply, too_long, usage_answer};
 use crate::status::Status;
 use core_syntax::Memory;
 use rem_base::{ReadRefusal, Sink, Source, read_all, write_all};
