@@ -1,14 +1,18 @@
 -- What is due, from what the code and the machine say.
-use Rattle.std.proofs.Common.{◌≡◌, refl, sym, ap, subst, ℕ, ◌+◌, ◌<◌, max, arith, List, [], length, Option, Some, None, Result, Ok, Err}
+use Rattle.std.proofs.Common.{◌≡◌, refl, sym, ap, ◌∙◌, subst, ℕ, ◌+◌, ◌<◌, max, arith, List, [], length, Option, Some, None, Result, Ok, Err}
 use Rattle.std.specs.Prelude.{IfOk, IfErr, IfSome, replicate}
 use Rattle.std.proofs.lemmas.List.{length-replicate}
 use Rattle.core_syntax.specs.declared.span.Span.{Span}
+use Rattle.core_syntax.specs.Lists.{each}
+use Rattle.core_syntax.specs.NormTypes.{norm_ty}
 use Rattle.core_syntax.specs.Notes.{NodeNote}
 use Rattle.core_syntax.specs.Syntax.{Ty, Program}
 use Rattle.core_syntax.specs.Typing.{Has, body_context}
 use Rattle.array_values.specs.Values.{Array}
 use Rattle.array_values.specs.declared.value.Value.{Value}
 use Rattle.code_text.specs.Blame.{CodeText}
+use Rattle.lowering.specs.Laws.{code_of_program}
+use Rattle.lowering.specs.Params.{ty_param}
 use Rattle.machine.specs.declared.running.Outcome.{Outcome}
 use Rattle.machine.specs.declared.running.Outcome.TheVariants as outcome
 use Rattle.machine.specs.Answers.{Answers}
@@ -22,13 +26,13 @@ use Rattle.remora_driver.specs.declared.reply.Reply.{Reply}
 use Rattle.remora_driver.specs.declared.status.Status.TheVariants as status
 use Rattle.remora_driver.specs.Calls.{RefusesBuild}
 use Rattle.remora_driver.specs.Due.{Answer, written, outcome_answer, IsCodeDue, ends, goes_on, IsExecutionDue, not_executed, is_executed, IsRefused, too_long, IsCheckDue, check_refused, checks, not_accepted, IsRunDue, run_refused, runs, IsBuildDue, build_refused, builds, IsExecDue, text_too_long, no_code, executes, HasEnd, reaches, traps, keeps_going, IsReductionDue, not_reduced, is_reduced, IsReduceDue, reduce_refused, reduces, IsJobDue, no_job, does, refused, accepted, front, usage}
-use Rattle.remora_driver.specs.Programs.{IsAcceptedSource, code_of}
+use Rattle.remora_driver.specs.Programs.{IsAcceptedSource}
 use Rattle.remora_driver.specs.Top.{IsTold, IsDueFor, IsAnswer}
 use Rattle.remora_driver.specs.Jobs.{longest, IsJob}
 use Rattle.remora_driver.specs.declared.job.Job.{Job}
 use Rattle.remora_driver.specs.declared.job.Job.TheVariants.{Check, Build, Run, Exec, Reduce}
 use Rattle.remora_driver.specs.Sources.{IsCompiled, Compiles, seen, told}
-use Rattle.remora_driver.proofs.Runs.{later}
+use Rattle.machine.proofs.Runs.{never}
 
 -- ---- codes
 
@@ -45,7 +49,15 @@ code_due code budget (outcome.Done a) (k, h) = ends k (table.Done a) h.0 h.1 ref
 code_due code budget (outcome.Trap t) (k, h) = ends k (table.Trap t) h.0 h.1 refl
 code_due code budget (outcome.Stuck t) (k, h) = ends k (table.Stuck t) h.0 h.1 refl
 code_due code budget outcome.Going (k, h) =
-    goes_on (λ n o le end. let lt : budget < n = later value_rules code.blocks budget n (Goes (start value_rules code.blocks [])) h.1.0 o h.1.1 end in absurd (omega (arith, lt, le))) refl
+    goes_on (λ n o within end. never code.blocks budget n (Goes (start value_rules code.blocks [])) o h.1.0 within end h.1.1) refl
+
+-- and for the source that has it
+pub run_due : (bytes : List ℕ) (budget : ℕ) (code : Code) → IsCompiled bytes code → (a : Answer) → IsCodeDue code budget a → IsRunDue bytes budget a
+run_due bytes budget code is a due = runs is.program is.notes is.runs (subst (λ (c : Code). IsCodeDue c budget a) is.compiled due)
+
+-- such a code has no inputs
+pub no_params : (bytes : List ℕ) (code : Code) → IsCompiled bytes code → code.params ≡ []
+no_params bytes code is = ap (λ (c : Code). c.params) is.compiled ∙ ap (λ (ts : List Ty). each ty_param (each norm_ty ts)) is.runs.inputs
 
 -- the text of the code that a source has
 pub text_due : {T : Type 0} (bytes : List ℕ) (code : Code) (bytes_of : T → List ℕ) (r : Result T SourceRefusal) → IsCompiled bytes code → IfOk r (λ text. CodeText code (bytes_of text)) → IfOk r (λ text. IsBuildDue bytes (written (bytes_of text)))
@@ -117,7 +129,7 @@ check_answers bytes a (checks P t source has is) = subst (λ (b : Answer). IsAns
 
 run_answers : (bytes : List ℕ) (budget : ℕ) (a : Answer) → IsRunDue bytes budget a → IsAnswer a.status
 run_answers bytes budget a (run_refused number at why is) = subst (λ (b : Answer). IsAnswer b.status) (sym is) tt
-run_answers bytes budget a (runs P notes is due) = code_answers (code_of P notes) budget a due
+run_answers bytes budget a (runs P notes is due) = code_answers (code_of_program P notes) budget a due
 
 build_answers : (bytes : List ℕ) (a : Answer) → IsBuildDue bytes a → IsAnswer a.status
 build_answers bytes a (build_refused number at why is) = subst (λ (b : Answer). IsAnswer b.status) (sym is) tt

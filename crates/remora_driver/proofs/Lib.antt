@@ -1,5 +1,5 @@
 pub mod Answers
-pub mod Calls
+pub mod Called
 pub mod Dues
 pub mod JobWords
 pub mod Meant
@@ -9,6 +9,5 @@ pub mod OneEnd
 pub mod OneNotes
 pub mod Plain
 pub mod Reductions
-pub mod Runs
 pub mod RunsReduced
 pub mod Sourced

@@ -19,6 +19,7 @@ use Rattle.sexp_reader.specs.Reads.{Reads, Refusal, read_blame}
 use Rattle.sexp_reader.proofs.Leftmost.{reads_one_way, reads_or_is_refused}
 use Rattle.name_resolve.specs.Means.{NameBlame, program}
 use Rattle.name_resolve.specs.Reading.{Read}
+use Rattle.lowering.specs.Laws.{code_of_program}
 use Rattle.code_text.specs.Blame.{CodeText}
 use Rattle.code_text.specs.Text.{code_text}
 use Rattle.code_text.proofs.Verdicts.{one_code_read}
@@ -26,7 +27,7 @@ use Rattle.remora_driver.specs.declared.job.Job.{Job}
 use Rattle.remora_driver.specs.declared.job.Job.TheVariants.{Check, Build, Run, Exec, Reduce}
 use Rattle.remora_driver.specs.Due.{Answer, written, refused, IsRefused, too_long, unread, unresolved, ill_typed, IsCheckDue, check_refused, checks, HasNoCode, not_accepted, has_inputs, IsRunDue, run_refused, runs, IsBuildDue, build_refused, builds, IsExecDue, text_too_long, no_code, executes, IsReductionDue, IsReduceDue, reduce_refused, reduces, IsJobDue, IsDue, no_job, does}
 use Rattle.remora_driver.specs.Jobs.{IsJob, plain, limited, plain_job, limited_job}
-use Rattle.remora_driver.specs.Programs.{IsSource, IsAcceptedSource, IsProgram, code_of}
+use Rattle.remora_driver.specs.Programs.{IsSource, IsAcceptedSource, IsProgram}
 use Rattle.remora_driver.specs.Texts.{line, accepted_text}
 use Rattle.remora_driver.proofs.JobWords.{first_of_two, two_four, first_of_four, last_of_four}
 use Rattle.remora_driver.proofs.OneBlame.{one_blamed, unblamed}
@@ -50,10 +51,10 @@ pub notes_agree : (P Q : Program) (ns ms : List NodeNote) → P ≡ Q → ∥ Pr
 notes_agree P Q ns ms same are are' =
     ∥∥₁_map₂ (subst (λ (R : Program). ∥ ProgramNotesAre R ns ∥₁) same are) are' (λ x y. program_one_notes Q ns ms x y)
 
-codes_agree : (bytes : List ℕ) (P Q : Program) (ns ms : List NodeNote) → IsProgram bytes P ns → IsProgram bytes Q ms → ∥ code_of P ns ≡ code_of Q ms ∥₁
+codes_agree : (bytes : List ℕ) (P Q : Program) (ns ms : List NodeNote) → IsProgram bytes P ns → IsProgram bytes Q ms → ∥ code_of_program P ns ≡ code_of_program Q ms ∥₁
 codes_agree bytes P Q ns ms is is' =
     let same : P ≡ Q = one_source bytes P Q is.source.means is'.source.means in
-    ∥∥₁_map (notes_agree P Q ns ms same (program_notes bytes P ns is) (program_notes bytes Q ms is')) (λ e. ap (λ (R : Program). code_of R ns) same ∙ ap (code_of Q) e)
+    ∥∥₁_map (notes_agree P Q ns ms same (program_notes bytes P ns is) (program_notes bytes Q ms is')) (λ e. ap (λ (R : Program). code_of_program R ns) same ∙ ap (code_of_program Q) e)
 
 -- a text that reads as forms isn't refused by the reader, and one that means a program isn't by the names
 blamed_unread : (bytes : List ℕ) (fs : Forms) (r : Refusal) → read_blame bytes ≡ Some r → Reads bytes fs → ⊥
@@ -143,7 +144,7 @@ one_run : (bytes : List ℕ) (budget : ℕ) (a b : Answer) → IsRunDue bytes bu
 one_run bytes budget a b (run_refused m p why e) (run_refused n q why' h) = e ∙ one_no_code bytes m n p q why why' ∙ sym h
 one_run bytes budget a b (run_refused m p why e) (runs P ns is due) = absurd (code_or_not bytes m p P ns why is)
 one_run bytes budget a b (runs P ns is due) (run_refused m p why e) = absurd (code_or_not bytes m p P ns why is)
-one_run bytes budget a b (runs P ns is due) (runs Q ms is' due') = one_code_due (code_of P ns) (code_of Q ms) (codes_agree bytes P Q ns ms is is') budget a b due due'
+one_run bytes budget a b (runs P ns is due) (runs Q ms is' due') = one_code_due (code_of_program P ns) (code_of_program Q ms) (codes_agree bytes P Q ns ms is is') budget a b due due'
 
 answer_same : (a b : Answer) → a.status ≡ b.status → a.text ≡ b.text → a ≡ b
 answer_same a b e h = λ i. record { status = e i; text = h i }

@@ -16,14 +16,14 @@ use Rattle.array_values.specs.Values.{Array}
 use Rattle.array_values.specs.declared.value.Value.{Value}
 use Rattle.machine_table.specs.Codes.{Code}
 use Rattle.machine_table.specs.Ends.{Ends}
-use Rattle.machine_table.specs.Machine.{Outcome, Done, Trap, Stuck, Goes, start}
+use Rattle.machine_table.specs.Machine.{Outcome, Done, Trap, Stuck}
 use Rattle.machine_table.specs.ValueRules.{value_rules}
 use Rattle.reduction_laws.proofs.runs.Once.{one_value, one_trap, not_both}
 use Rattle.value_text.specs.ValueText.{array_text}
 use Rattle.value_text.proofs.DataTexts.{text_by_data}
 use Rattle.remora_driver.specs.Due.{Answer, written, trapped, stuck, outcome_answer, StillRuns, IsCodeDue, ends, goes_on, IsExecutionDue, not_executed, is_executed, HasEnd, reaches, traps, keeps_going, IsReductionDue, not_reduced, is_reduced}
 use Rattle.remora_driver.specs.Texts.{line}
-use Rattle.remora_driver.proofs.Runs.{once}
+use Rattle.compiled_laws.proofs.Results.{code_ends_once}
 
 -- ---- kinds
 
@@ -85,7 +85,7 @@ one_outcome (Stuck k) (Stuck l) same = ap stuck (∥∥₁_elim same (Coded-set 
 module _ (c d : Code) (same : ∥ c ≡ d ∥₁) (budget : ℕ) where
   ends_once : (n m : ℕ) (o p : Outcome Value) → Ends value_rules c [] n o → Ends value_rules d [] m p → ∥ o ≡ p ∥₁
   ends_once n m o p e f =
-      ∥∥₁_map same (λ s. (once value_rules d.blocks n m (Goes (start value_rules d.blocks [])) o p (subst (λ (code : Code). Ends value_rules code [] n o) s e) f).1)
+      ∥∥₁_map same (λ s. (code_ends_once d [] n m o p (subst (λ (code : Code). Ends value_rules code [] n o) s e) f).1)
 
   ends_late : (n : ℕ) (o : Outcome Value) → n ≤ budget → Ends value_rules c [] n o → StillRuns d [] budget → ⊥
   ends_late n o le e going = ∥∥₁_elim same (λ x y. absurd x) (λ s. going n o le (subst (λ (code : Code). Ends value_rules code [] n o) s e))

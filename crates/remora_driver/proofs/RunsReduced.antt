@@ -6,19 +6,19 @@ use Rattle.std.specs.Coded.{Coded-set, coded_list, coded_ℕ}
 use Rattle.core_syntax.specs.Notes.{NodeNote}
 use Rattle.core_syntax.specs.Syntax.{Program}
 use Rattle.machine_table.specs.Machine.{Done, Trap, Stuck}
+use Rattle.lowering.specs.Laws.{code_of_program}
+use Rattle.compiled_laws.specs.Laws.{DoesAsSource}
 use Rattle.value_text.specs.ValueText.{array_text}
 use Rattle.remora_driver.specs.Due.{Answer, written, refused, trapped, still_running, front, IsCodeDue, ends, goes_on, not_accepted, has_inputs, IsRunDue, run_refused, runs, HasEnd, reaches, traps, keeps_going, IsReductionDue, not_reduced, is_reduced, IsReduceDue, reduce_refused, reduces}
 use Rattle.remora_driver.specs.Laws.{RunIsReduce}
-use Rattle.remora_driver.specs.Meant.{DoesAsReduction}
-use Rattle.remora_driver.specs.Programs.{IsAcceptedSource, code_of}
 use Rattle.remora_driver.specs.Texts.{line}
-use Rattle.remora_driver.proofs.Meant.{code_is_reduction}
+use Rattle.remora_driver.proofs.Meant.{does_as_source}
 use Rattle.remora_driver.proofs.OneDue.{one_source, one_refusal, refused_or_not, code_or_not, program_notes, notes_agree}
 use Rattle.remora_driver.proofs.OneEnd.{coded_kind, values_agree, kinds_agree, value_or_trap, trap_or_value}
 
 -- one program, whose code ends within one budget and whose reduction within another
-module _ (P : Program) (ns ms : List NodeNote) (same : ∥ ns ≡ ms ∥₁) (does : ∥ DoesAsReduction P ns [] ∥₁) (steps reductions : ℕ) (a b : Answer) (left : a ≢ still_running) (right : b ≢ still_running) where
-  ended_alike : IsCodeDue (code_of P ns) steps a → HasEnd P ms reductions b → a ≡ b
+module _ (P : Program) (ns ms : List NodeNote) (same : ∥ ns ≡ ms ∥₁) (does : ∥ DoesAsSource P ns [] ∥₁) (steps reductions : ℕ) (a b : Answer) (left : a ≢ still_running) (right : b ≢ still_running) where
+  ended_alike : IsCodeDue (code_of_program P ns) steps a → HasEnd P ms reductions b → a ≡ b
   ended_alike (ends n (Done x) le end p) (reaches l w y le' s is' q) =
       let text : array_text x ≡ array_text y =
         ∥∥₁_elim does (Coded-set (coded_list coded_ℕ) (array_text x) (array_text y)) (λ d. let r = d.done n x end in values_agree P ns ms same r.0 l r.1 w x y r.2 s r.3 is') in
@@ -34,7 +34,7 @@ module _ (P : Program) (ns ms : List NodeNote) (same : ∥ ns ≡ ms ∥₁) (do
   ended_alike (goes_on still p) due = absurd (left p)
   ended_alike (ends n o le end p) (keeps_going going q) = absurd (right q)
 
-  reduced_alike : b ≢ refused 90 front → IsCodeDue (code_of P ns) steps a → IsReductionDue P ms reductions b → a ≡ b
+  reduced_alike : b ≢ refused 90 front → IsCodeDue (code_of_program P ns) steps a → IsReductionDue P ms reductions b → a ≡ b
   reduced_alike today due (not_reduced none q) = absurd (today q)
   reduced_alike today due (is_reduced reducible end) = ended_alike due end
 
@@ -50,4 +50,4 @@ run_is_reduce bytes n m a b (runs P ns is due) (reduce_refused number' at' why' 
 run_is_reduce bytes n m a b (runs P ns is due) (reduces Q ms is' are due') left right today =
     let same : P ≡ Q = one_source bytes P Q is.source.means is'.means in
     let notes : ∥ ns ≡ ms ∥₁ = notes_agree P Q ns ms same (program_notes bytes P ns is) are in
-    reduced_alike P ns ms notes (code_is_reduction bytes P ns is) n m a b left right today due (subst (λ (R : Program). IsReductionDue R ms m b) (sym same) due')
+    reduced_alike P ns ms notes (does_as_source bytes P ns is) n m a b left right today due (subst (λ (R : Program). IsReductionDue R ms m b) (sym same) due')

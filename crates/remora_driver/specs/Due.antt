@@ -20,6 +20,7 @@ use Rattle.machine_table.specs.ValueRules.{value_rules}
 use Rattle.code_text.specs.Blame.{CodeText, Blame}
 use Rattle.code_text.specs.declared.refusal.CodeKind.{CodeKind}
 use Rattle.code_text.specs.declared.refusal.CodeKind.TheVariants.{Byte, End}
+use Rattle.lowering.specs.Laws.{code_of_program}
 use Rattle.sexp_reader.specs.Forms.{Forms}
 use Rattle.sexp_reader.specs.Reads.{Reads, read_blame}
 use Rattle.name_resolve.specs.Means.{NameBlame}
@@ -29,7 +30,7 @@ use Rattle.remora_driver.specs.declared.status.Status.{Status}
 use Rattle.remora_driver.specs.declared.status.Status.TheVariants as status
 use Rattle.remora_driver.specs.Jobs.{longest_source, longest_code, IsJob, IsCall}
 use Rattle.remora_driver.specs.Places.{bytes_behind}
-use Rattle.remora_driver.specs.Programs.{IsSource, IsAcceptedSource, IsProgram, code_of}
+use Rattle.remora_driver.specs.Programs.{IsSource, IsAcceptedSource, IsProgram}
 use Rattle.remora_driver.specs.Reducible.{IsReducible}
 use Rattle.value_text.specs.ValueText.{array_text}
 use Rattle.remora_driver.specs.Texts.{line, accepted_text, refusal_text, trap_text, stuck_text, still_running_text, usage_text}
@@ -122,12 +123,12 @@ pub data HasNoCode (bytes : List ℕ) (number : ℕ) (at : Span) : Type 0 where
 -- what is due for a program source of which the code is built: the text of the code
 pub data IsBuildDue (bytes : List ℕ) (a : Answer) : Type 0 where
   build_refused : (number : ℕ) (at : Span) → HasNoCode bytes number at → a ≡ refused number at → IsBuildDue bytes a
-  builds : (P : Program) (notes : List NodeNote) → IsProgram bytes P notes → a.status ≡ status.Ok → CodeText (code_of P notes) a.text → IsBuildDue bytes a
+  builds : (P : Program) (notes : List NodeNote) → IsProgram bytes P notes → a.status ≡ status.Ok → CodeText (code_of_program P notes) a.text → IsBuildDue bytes a
 
 -- what is due for a program source that is run: how its code ends
 pub data IsRunDue (bytes : List ℕ) (budget : ℕ) (a : Answer) : Type 0 where
   run_refused : (number : ℕ) (at : Span) → HasNoCode bytes number at → a ≡ refused number at → IsRunDue bytes budget a
-  runs : (P : Program) (notes : List NodeNote) → IsProgram bytes P notes → IsCodeDue (code_of P notes) budget a → IsRunDue bytes budget a
+  runs : (P : Program) (notes : List NodeNote) → IsProgram bytes P notes → IsCodeDue (code_of_program P notes) budget a → IsRunDue bytes budget a
 
 -- ---- reduction
 

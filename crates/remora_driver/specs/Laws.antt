@@ -1,32 +1,13 @@
 -- What the definition of the due answers comes to.
-use Rattle.std.specs.Prelude.{◌≡◌, ◌≢◌, ℕ, List, []}
-use Rattle.core_syntax.specs.Notes.{NodeNote}
-use Rattle.core_syntax.specs.Syntax.{Program}
+use Rattle.std.specs.Prelude.{◌≡◌, ◌≢◌, ℕ, List}
 use Rattle.remora_driver.specs.Due.{Answer, refused, still_running, front, IsDue, IsRunDue, IsReduceDue}
-use Rattle.remora_driver.specs.Meant.{DoesAsReduction, CodeGoesOn, ReductionGoesOn, Means}
-use Rattle.remora_driver.specs.Programs.{IsProgram}
+use Rattle.remora_driver.specs.Meant.{Means}
 
 -- for the same words and bytes one answer is due at most
 abbrev pub OneAnswer : Type 0
 OneAnswer = (words : List (List ℕ)) (bytes : List ℕ) (a b : Answer) → IsDue words bytes a → IsDue words bytes b → a ≡ b
 
--- a fact of each program that runs today
-abbrev pub OfEach : (Program → List NodeNote → Type 0) → Type 0
-OfEach F = (bytes : List ℕ) (P : Program) (notes : List NodeNote) → IsProgram bytes P notes → F P notes
-
--- its code does as typed reduction of it
-abbrev pub CodeIsReduction : Type 0
-CodeIsReduction = OfEach (λ P notes. ∥ DoesAsReduction P notes [] ∥₁)
-
--- where the code goes on, reduction ends late
-abbrev pub CodeGoesOnLong : Type 0
-CodeGoesOnLong = OfEach (λ P notes. CodeGoesOn P notes [])
-
--- where reduction goes on, the code ends late
-abbrev pub ReductionGoesOnLong : Type 0
-ReductionGoesOnLong = OfEach (λ P notes. ReductionGoesOn P notes [])
-
--- what is due means what typed reduction means
+-- what is due for a source that is run or built is what typed reduction of its program means
 abbrev pub DueMeans : Type 0
 DueMeans = (words : List (List ℕ)) (bytes : List ℕ) (a : Answer) → IsDue words bytes a → Means words bytes a
 

@@ -1,6 +1,6 @@
--- The programs that run today, and their codes.
+-- The programs that a text means, and those that run today.
 use Rattle.std.specs.Prelude.{◌≡◌, ◌≤◌, ℕ, List, [], length}
-use Rattle.core_syntax.specs.Blame.{Blames, IsAccepted}
+use Rattle.core_syntax.specs.Blame.{IsAccepted}
 use Rattle.core_syntax.specs.Literals.{LiteralsFit}
 use Rattle.core_syntax.specs.Notes.{NodeNote}
 use Rattle.core_syntax.specs.Syntax.{Ty, Program}
@@ -9,10 +9,6 @@ use Rattle.sexp_reader.specs.Forms.{Forms}
 use Rattle.sexp_reader.specs.Reads.{Reads}
 use Rattle.name_resolve.specs.Means.{Means}
 use Rattle.reduction_laws.specs.Laws.{IsReady}
-use Rattle.erasure.specs.Programs.{erased_program}
-use Rattle.machine_table.specs.Codes.{Code}
-use Rattle.lowering.specs.Params.{params_of}
-use Rattle.lowering.specs.Sources.{code_of_program}
 use Rattle.remora_driver.specs.Jobs.{longest_source}
 
 -- the text means this program
@@ -28,10 +24,6 @@ pub record IsAcceptedSource (bytes : List ℕ) (P : Program) : Type 0 where
   pub accepted : ∥ IsAccepted P ∥₁
   -- the rules of typing type it
   pub typed : ∥ Typed P ∥₁
-
--- the code of a program whose nodes have these notes: the erased program, lowered
-abbrev pub code_of : Program → List NodeNote → Code
-code_of P notes = record { params = params_of (erased_program P notes); blocks = code_of_program P notes }
 
 -- the text means this accepted program, which has no inputs and so runs today, and these are the notes of its nodes
 pub record IsProgram (bytes : List ℕ) (P : Program) (notes : List NodeNote) : Type 0 where

@@ -12,12 +12,13 @@ use Rattle.sexp_reader.specs.Forms.{Forms}
 use Rattle.name_resolve.specs.Means.{Means, NameBlame}
 use Rattle.machine.specs.declared.running.Outcome.{Outcome}
 use Rattle.machine.specs.declared.running.Outcome.TheVariants as outcome
+use Rattle.lowering.specs.Laws.{code_of_program}
 use Rattle.machine_table.specs.Codes.{Code}
 use Rattle.remora_driver.specs.declared.reply.Reply.{Reply}
 use Rattle.remora_driver.specs.declared.errors.SourceRefusal.{SourceRefusal}
 use Rattle.remora_driver.specs.declared.errors.SourceRefusal.TheVariants as no_code
 use Rattle.remora_driver.specs.Due.{Answer, front, IsRefused, HasNoCode, shown, trapped, stuck, still_running}
-use Rattle.remora_driver.specs.Programs.{IsSource, IsAcceptedSource, IsProgram, code_of}
+use Rattle.remora_driver.specs.Programs.{IsSource, IsAcceptedSource, IsProgram}
 
 -- the program that the forms mean, or why they mean none, or there was no memory
 abbrev pub Resolves : Forms → Result Program SourceRefusal → Type 0
@@ -45,7 +46,7 @@ ChecksSource bytes (Err no_code.Memory) = ⊤
 
 -- the code of a checked program without inputs, or it has inputs, or there was no memory
 abbrev pub CompilesChecked : Checked → Result Code SourceRefusal → Type 0
-CompilesChecked c (Ok code) = ((program_of c.program).inputs ≡ []) × LiteralsFit (program_of c.program) × (code ≡ code_of (program_of c.program) (each note_of c.notes))
+CompilesChecked c (Ok code) = ((program_of c.program).inputs ≡ []) × LiteralsFit (program_of c.program) × (code ≡ code_of_program (program_of c.program) (each note_of c.notes))
 CompilesChecked c (Err (no_code.Refused number at)) = ¬ ((program_of c.program).inputs ≡ []) × (number ≡ 90) × (at ≡ front)
 CompilesChecked c (Err no_code.Memory) = ⊤
 
@@ -54,7 +55,7 @@ pub record IsCompiled (bytes : List ℕ) (code : Code) : Type 0 where
   pub program : syntax.Program
   pub notes : List NodeNote
   pub runs : IsProgram bytes program notes
-  pub compiled : code ≡ code_of program notes
+  pub compiled : code ≡ code_of_program program notes
 
 -- the code of the program, or why the source has none, or there was no memory
 abbrev pub Compiles : List ℕ → Result Code SourceRefusal → Type 0

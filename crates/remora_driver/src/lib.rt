@@ -23,7 +23,7 @@ pub use answer::Answer;
 pub use calls::{build, reduce_source, run_source};
 pub use errors::SourceRefusal;
 pub use executing::exec;
-pub use laws::{code_does_as_reduction, due_means, one_answer, run_is_reduce};
+pub use laws::{due_means, one_answer, run_is_reduce};
 pub use source::check_source;
 pub use status::Status;
 pub use top::remora;
