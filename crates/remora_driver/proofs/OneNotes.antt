@@ -13,7 +13,7 @@ use Rattle.core_syntax.proofs.Equality.{same-put}
 use Rattle.core_syntax.proofs.NormTyLemmas.{same_normal}
 use Rattle.core_syntax.proofs.Unique.{unique}
 use Rattle.type_check.proofs.FramedLemmas.{note_again}
-use Rattle.typed_step.proofs.Alikes.{alike_types, alike_sorts, alike_terms}
+use Rattle.reduction_laws.proofs.programs.Alikes.{alike_types, alike_sorts, alike_terms}
 
 -- ---- notes of equal types
 

@@ -7,8 +7,9 @@ ghost use Rattle.remora_driver.specs.Reductions.{ended, EndsIn, IsPrinted, IsSta
 
 use array_values::Array;
 use core_syntax::{Checked, Memory, TrapKind};
+use reduction_laws::read_literals;
 use std::alloc::Global;
-use typed_step::{Closed, Next, read_literals, reduce, start, value};
+use typed_step::{Closed, Next, reduce, start, value};
 
 /// How a reduction ends within its budget.
 #[derive(Drop)]

@@ -11,6 +11,7 @@ use Rattle.array_values.specs.Data.{index_data, data_list, atom_data, array_data
 use Rattle.array_values.specs.Data as seen
 use Rattle.array_values.specs.Forms.{Forms, cells}
 use Rattle.array_values.specs.Values.{Array}
+use Rattle.array_values.specs.declared.closure.Closure.{Closure, fold-Closure}
 use Rattle.array_values.specs.declared.value.BoxedValue.{BoxedValue, fold-BoxedValue, fold_out-BoxedValue}
 use Rattle.array_values.specs.declared.value.Value.{Value, fold_out-Value, map-Value}
 use Rattle.array_values.specs.declared.value.Value.TheVariants.{Boxed, outs-Boxed}
@@ -203,13 +204,16 @@ module _ (t : TypedTerm) (dims : List ℕ) (xs : List TermAtom) (own : dims ≡ 
 -- ---- boxes
 
 abbrev box_data : BoxedValue → DataAtom
-box_data = fold-BoxedValue DataAtom DataAtom seen.atom_step seen.box_step
+box_data = fold-BoxedValue DataAtom DataAtom DataAtom seen.atom_step seen.closure_step seen.box_step
+
+abbrev closure_data : Closure → DataAtom
+closure_data = fold-Closure DataAtom DataAtom DataAtom seen.atom_step seen.closure_step seen.box_step
 
 pub data_boxed : (b : BoxedValue) → atom_data (Boxed b) ≡ DataBox (each index_data b.indices) (array_data b.content)
 data_boxed b =
-    fold_out-Value DataAtom DataAtom seen.atom_step seen.box_step (Boxed b)
-    ∙ ap (λ x. seen.atom_step (map-Value Value BoxedValue DataAtom DataAtom atom_data box_data x)) (outs-Boxed b)
-    ∙ fold_out-BoxedValue DataAtom DataAtom seen.atom_step seen.box_step b
+    fold_out-Value DataAtom DataAtom DataAtom seen.atom_step seen.closure_step seen.box_step (Boxed b)
+    ∙ ap (λ x. seen.atom_step (map-Value Value Closure BoxedValue DataAtom DataAtom DataAtom atom_data closure_data box_data x)) (outs-Boxed b)
+    ∙ fold_out-BoxedValue DataAtom DataAtom DataAtom seen.atom_step seen.closure_step seen.box_step b
     ∙ ap (λ zs. DataBox (each index_data b.indices) (DataArray b.content.dims (data_list zs))) (each_mapped atom_data b.content.atoms)
 
 pub box_is : (v : Value) (b s : BoxedValue) (vs : List IndexValue) (d : Data) → v ≡ Boxed s → s ≡ b → each index_data b.indices ≡ vs → array_data b.content ≡ d → atom_data v ≡ DataBox vs d
