@@ -22,8 +22,8 @@ use std::alloc::Global;
 
 /// A primitive on arrays, by the table of primitives (docs/LANGUAGE.md, "What primitives give"). `Wrong` comes exactly where
 /// the primitive lacks type or index arguments that its row has, or has others, or where the number of arrays, their atoms
-/// or their dims are others than its row's under its index arguments: it is the first of the cases that stand there. It
-/// answers `Memory` where there is none.
+/// or their dims are others than its row's under its index arguments: the first of the cases of a stuck machine
+/// (docs/MACHINE.md, "Stuck"). It answers `Memory` where there is none.
 pub fn delta(alloc: Global, p: &PrimValue, args: &[Array]) -> Result<Delta, Memory>
     ensures entry { IfOk result (λ d. entry_of d ≡ prim_entry value_rules p.now.op p.now.typed p.now.indices args.now) }
     ensures fold { IfOk result (λ d. IsFoldOf args.now d) }
