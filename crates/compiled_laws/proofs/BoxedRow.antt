@@ -2,7 +2,7 @@
 use Rattle.std.proofs.Common.{◌≡◌, refl, sym, ap, subst, ◌∙◌, ℕ, pos, arith, List, [], ◌∷◌}
 use Rattle.core_syntax.specs.declared.index.Sort.{Sort}
 use Rattle.core_syntax.specs.declared.index.Sort.TheVariants as sort
-use Rattle.core_syntax.specs.Syntax.{Ty, Sigma, Arr, Var, no_span, Expr, TermVar, Array, Unbox, IntAtom, more_atoms, no_atoms, Program}
+use Rattle.core_syntax.specs.Syntax.{Ty, Sigma, Var, no_span, Expr, TermVar, Array as Literal, Unbox, IntAtom, more_atoms, no_atoms, Program}
 use Rattle.core_syntax.specs.Kinds.{IsWellFormed}
 use Rattle.core_syntax.specs.Lists.{each}
 use Rattle.core_syntax.specs.Prims.{scalar, int_ty, array_of}
@@ -47,7 +47,7 @@ abbrev int : Ty
 int = scalar int_ty
 
 abbrev seven : Expr
-seven = Array no_span [] (more_atoms (IntAtom no_span (pos 7)) no_atoms)
+seven = Literal no_span [] (more_atoms (IntAtom no_span (pos 7)) no_atoms)
 
 abbrev program : Program
 program = record { defs = []; inputs = box ∷ []; body = Unbox no_span 1 (TermVar no_span 0) int seven }

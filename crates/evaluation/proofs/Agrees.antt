@@ -72,7 +72,7 @@ module _ {A : Type 0} (R : ValueRules A) (cell : List Body → A → Cell erased
   abbrev Back : (n : ℕ) → Outcome A → Type 0
   Back n (Done a) = (k : ℕ) × (w : ErasedTerm) × ErasedReaches E xs k w × (value a ≡ w) × Near n k
   Back n (Trap kind) = (k : ℕ) × ErasedTraps E xs k kind × Near n k
-  Back n (Stuck kind) = ⊥
+  Back n (Stuck fault) = ⊥
 
   back_by : (b n : ℕ) (o : Outcome A) (run : Run (Arrayed A)) → ReducesAs R cell as_array E xs b run → EndedAs n o run → EndsSoon E run → UsesFew b run → Back n o
   back_by b n o (Ended a used m) same ended soon few =

@@ -58,7 +58,8 @@ pub fn prints(
 /// The line of what isn't built yet.
 const NOT_BUILT: &str = "refused 90 1:1";
 
-/// Calls a command that comes to this line in so many steps and no fewer, `-` where it isn't built yet.
+/// Calls a command that comes to this line in so many steps and no fewer, `*` where that isn't said, `-` where it isn't built
+/// yet.
 pub fn ends(
     rt: &impl Abort,
     alloc: Global,
@@ -68,11 +69,14 @@ pub fn ends(
     line: &str,
 ) -> Result<(), Fail> {
     let words = format!(in alloc; "{command} f")?;
-    let Ok(least) = steps.parse::<u64>() else {
-        assert_eq!(rt; steps, "-");
+    if steps == "-" {
         return prints(rt, alloc, words.as_str(), source, NOT_BUILT);
-    };
+    }
     prints(rt, alloc, words.as_str(), source, line)?;
+    let Ok(least) = steps.parse::<u64>() else {
+        assert_eq!(rt; steps, "*");
+        return Ok(());
+    };
     let enough = format!(in alloc; "{command} f --steps {least}")?;
     prints(rt, alloc, enough.as_str(), source, line)?;
     if least > 1 {

@@ -1,5 +1,5 @@
 -- The notes of a checked program are what a code may hold: each is of a type that was measured.
-use Rattle.std.proofs.Common.{◌≡◌, refl, sym, ap, ◌∙◌, subst, ℕ, suc, ◌+◌, ◌<◌, ◌^◌, arith, List, [], ◌∷◌, ◌++◌, length, append_assoc, append-nil, Some, None}
+use Rattle.std.proofs.Common.{◌≡◌, refl, sym, ap, ◌∙◌, subst, ℕ, suc, ◌+◌, ◌<◌, ◌^◌, arith, List, [], ◌∷◌, ◌++◌, length, append-nil, Some, None}
 use Rattle.core_syntax.specs.declared.span.Span.{Span}
 use Rattle.core_syntax.specs.declared.index.Sort.{Sort}
 use Rattle.core_syntax.specs.Syntax.{Index, Ty, Fun, Pi, Sigma, Arr, Tys, no_tys, more_tys, ty_items, no_span, Expr, Exprs, expr_items, expr_at, ty_at}
@@ -13,8 +13,8 @@ use Rattle.core_syntax.specs.Subst.{ty_under_index, with_indices}
 use Rattle.core_syntax.specs.Prims.{array_of}
 use Rattle.core_syntax.specs.Typing.{Context, times, under_sorts, under_terms, OnArr, OnSigma, Takes, numbers, Has, ArgsHave, IsPrincipal}
 use Rattle.core_syntax.specs.Blame.{Premises, premise, ◌then◌, with_any, measure, written, written_indices, concluding, IsFunction, IsPi, IsSigma, IsSigmaAtom, of_function, of_pi, of_sigma, of_sigma_atom, premises, args_premises, expr_premises}
-use Rattle.core_syntax.specs.Notes.{NodeNote, app_note, shape_word, Behind, Empty}
-use Rattle.core_syntax.specs.Annotate.{first_note, later_notes, noted, cell_noted}
+use Rattle.core_syntax.specs.Notes.{NodeNote, app_note, shape_word}
+use Rattle.core_syntax.specs.Annotate.{first_note, noted, cell_noted}
 use Rattle.core_syntax.proofs.Alike.{Alike, are_same_refl}
 use Rattle.core_syntax.proofs.Carries.{expr_premises_carry}
 use Rattle.reduction_laws.proofs.programs.Alikes.{alike_sorts, alike_terms}

@@ -1,5 +1,5 @@
 -- That a code keeps what it keeps is a fact with one proof.
-use Rattle.std.proofs.Common.{◌≡◌, ◌⊎◌, inl, inr, ℕ, zero, suc, ◌+◌, ◌<◌, ◌≤◌, ◌^◌, arith, List, [], ◌∷◌, length}
+use Rattle.std.proofs.Common.{inl, inr, ℕ, zero, suc, ◌+◌, ◌<◌, ◌≤◌, ◌^◌, arith, List, [], ◌∷◌, length}
 use Rattle.std.specs.Prelude.{pos, negsuc, slice_index_or}
 use Rattle.std.specs.Coded.{×_prop, le_prop, Unit-prop, Coded-set, coded_ℕ}
 use Rattle.std.specs.List.{All}
@@ -27,7 +27,7 @@ use Rattle.machine_table.specs.declared.code.Block.{Block}
 use Rattle.machine_table.specs.Codes.{Boxes, Param, Code}
 use Rattle.machine_table.specs.Indices.{code_index}
 use Rattle.machine_table.specs.IndexBounds.{Scope, InBlock, Under, under, Binds, IsVar, IsDim, IsLetter, IsShape, IsCell, IsIndex}
-use Rattle.machine_table.specs.CodeBounds.{IsChar, IsLiteral, IsConst, IsFilled, AreIndices, AreCells, IsCount, IsTaken, IsInstr, IsBlock, AreBlocks, AreHidden, IsAround, IsParam, AreParams, IsCode}
+use Rattle.machine_table.specs.CodeBounds.{IsChar, IsLiteral, IsConst, IsFilled, AreIndices, AreCells, IsTaken, IsInstr, IsBlock, AreBlocks, AreHidden, IsAround, IsParam, AreParams, IsCode}
 
 -- a fact of each item
 all_prop : {A : Type 0} (P : A → Type 0) → ((x : A) → IsProp (P x)) → (xs : List A) → IsProp (All P xs)
