@@ -1,62 +1,80 @@
 -- What is due, from what the code and the machine say.
-use Rattle.std.proofs.Common.{◌≡◌, refl, sym, ap, ◌∙◌, subst, ℕ, ◌+◌, ◌<◌, ◌≤◌, max, arith, List, [], length, Option, Some, None, Result, Ok, Err}
-use Rattle.std.specs.Prelude.{IfOk, IfSome, replicate}
+use Rattle.std.proofs.Common.{◌≡◌, refl, sym, ap, ◌∙◌, subst, ℕ, ◌+◌, ◌<◌, max, arith, List, [], length, Option, Some, None, Result, Ok, Err}
+use Rattle.std.specs.Prelude.{IfOk, IfErr, IfSome, replicate}
 use Rattle.std.proofs.lemmas.List.{length-replicate}
 use Rattle.core_syntax.specs.declared.span.Span.{Span}
+use Rattle.core_syntax.specs.Lists.{each}
+use Rattle.core_syntax.specs.NormTypes.{norm_ty}
 use Rattle.core_syntax.specs.Notes.{NodeNote}
 use Rattle.core_syntax.specs.Syntax.{Ty, Program}
 use Rattle.core_syntax.specs.Typing.{Has, body_context}
-use Rattle.code_text.specs.declared.code.Block.{Block}
+use Rattle.array_values.specs.Values.{Array}
+use Rattle.array_values.specs.declared.value.Value.{Value}
 use Rattle.code_text.specs.Blame.{CodeText}
-use Rattle.code_text.specs.Ends.{Ends, start}
-use Rattle.code_text.specs.Machine.{Goes}
-use Rattle.code_text.specs.Machine as table
-use Rattle.code_text.specs.Text.{code_text}
+use Rattle.lowering.specs.Laws.{code_of_program}
+use Rattle.lowering.specs.Params.{ty_param}
 use Rattle.machine.specs.declared.running.Outcome.{Outcome}
 use Rattle.machine.specs.declared.running.Outcome.TheVariants as outcome
 use Rattle.machine.specs.Answers.{Answers}
-use Rattle.remora_driver.specs.declared.answer.Reply.{Reply}
+use Rattle.machine_table.specs.Codes.{Code}
+use Rattle.machine_table.specs.Machine.{Goes, start}
+use Rattle.machine_table.specs.Machine as table
+use Rattle.machine_table.specs.ValueRules.{value_rules}
+use Rattle.remora_driver.specs.declared.errors.SourceRefusal.{SourceRefusal}
+use Rattle.remora_driver.specs.declared.errors.SourceRefusal.TheVariants as no_text
+use Rattle.remora_driver.specs.declared.reply.Reply.{Reply}
 use Rattle.remora_driver.specs.declared.status.Status.TheVariants as status
-use Rattle.remora_driver.specs.Due.{Answer, outcome_answer, IsCodeDue, ends, goes_on, EndsAsMeant, value, overflow, IsTermDue, in_time, too_late, IsRefused, too_long, IsAcceptedSource, IsCheckDue, check_refused, checks, HasNoCode, not_accepted, IsRunDue, run_refused, runs, IsBuildDue, build_refused, builds, IsExecDue, text_too_long, no_code, executes, HasEnd, reaches, traps, keeps_going, IsReductionDue, not_reduced, is_reduced, IsReduceDue, reduce_refused, reduces, IsJobDue, no_job, does, refused, accepted, front, usage}
+use Rattle.remora_driver.specs.Calls.{RefusesBuild}
+use Rattle.remora_driver.specs.Due.{Answer, written, outcome_answer, IsCodeDue, ends, goes_on, IsExecutionDue, not_executed, is_executed, IsRefused, too_long, IsCheckDue, check_refused, checks, not_accepted, IsRunDue, run_refused, runs, IsBuildDue, build_refused, builds, IsExecDue, text_too_long, no_code, executes, HasEnd, reaches, traps, keeps_going, IsReductionDue, not_reduced, is_reduced, IsReduceDue, reduce_refused, reduces, IsJobDue, no_job, does, refused, accepted, front, usage}
+use Rattle.remora_driver.specs.Programs.{IsAcceptedSource}
 use Rattle.remora_driver.specs.Top.{IsTold, IsDueFor, IsAnswer}
-use Rattle.remora_driver.specs.Jobs.{longest, longest_code, IsJob}
+use Rattle.remora_driver.specs.Jobs.{longest, IsJob}
 use Rattle.remora_driver.specs.declared.job.Job.{Job}
 use Rattle.remora_driver.specs.declared.job.Job.TheVariants.{Check, Build, Run, Exec, Reduce}
-use Rattle.remora_driver.specs.Lowering.{code_of}
-use Rattle.remora_driver.specs.Sources.{IsCompiled, seen, told}
-use Rattle.remora_driver.specs.Terms.{Term}
-use Rattle.remora_driver.proofs.Runs.{later, once}
+use Rattle.remora_driver.specs.Sources.{IsCompiled, Compiles, seen, told}
+use Rattle.machine.proofs.Runs.{never}
+
+-- ---- codes
 
 -- what a machine that has done nothing answers
-pub answered : {E : Type 0} (r : Result Outcome E) (code own : List Block) (budget steps n : ℕ) → own ≡ code → steps ≡ 0 → IfOk r (λ o. Answers own (max budget steps) n o) → IfOk r (λ o. (k : ℕ) × Answers code budget k o)
-answered (Ok o) code own budget steps n same none h =
+pub answered : {E : Type 0} (r : Result Outcome E) (code own : Code) (inputs : List Array) (budget steps n : ℕ) → own ≡ code → inputs ≡ [] → steps ≡ 0 → IfOk r (λ o. Answers own inputs (max budget steps) n o) → IfOk r (λ o. (k : ℕ) × Answers code [] budget k o)
+answered (Ok o) code own inputs budget steps n same no_inputs none h =
     let most : max budget steps ≡ budget = omega (arith, none) in
-    (n, subst (λ (c : List Block). Answers c budget n o) same (subst (λ (m : ℕ). Answers own m n o) most h))
-answered (Err e) code own budget steps n same none h = tt
+    (n, subst (λ (c : Code). Answers c [] budget n o) same (subst (λ (xs : List Array). Answers own xs budget n o) no_inputs (subst (λ (m : ℕ). Answers own inputs m n o) most h)))
+answered (Err e) code own inputs budget steps n same no_inputs none h = tt
 
 -- what is due for a code, from what the machine answers
-code_due : (code : List Block) (budget k : ℕ) (o : Outcome) → Answers code budget k o → IsCodeDue code budget (told o)
-code_due code budget k (outcome.Done a) h = ends k (table.Done a) h.0 h.1 refl
-code_due code budget k (outcome.Trap t) h = ends k (table.Trap t) h.0 h.1 refl
-code_due code budget k (outcome.Stuck t) h = ends k (table.Stuck t) h.0 h.1 refl
-code_due code budget k outcome.Going h = goes_on h.1 refl
+pub code_due : (code : Code) (budget : ℕ) (o : Outcome) → ((k : ℕ) × Answers code [] budget k o) → IsCodeDue code budget (told o)
+code_due code budget (outcome.Done a) (k, h) = ends k (table.Done a) h.0 h.1 refl
+code_due code budget (outcome.Trap t) (k, h) = ends k (table.Trap t) h.0 h.1 refl
+code_due code budget (outcome.Stuck t) (k, h) = ends k (table.Stuck t) h.0 h.1 refl
+code_due code budget outcome.Going (k, h) =
+    goes_on (λ n o within end. never code.blocks budget n (Goes (start value_rules code.blocks [])) o h.1.0 within end h.1.1) refl
 
-pub ran : {E : Type 0} (code : List Block) (budget : ℕ) (o : Outcome) (r : Result Reply E) → ((k : ℕ) × Answers code budget k o) → IfOk r (λ a. seen a ≡ told o) → IfOk r (λ a. IsCodeDue code budget (seen a))
-ran code budget o (Ok a) h e = subst (IsCodeDue code budget) (sym e) (code_due code budget h.0 o h.1)
-ran code budget o (Err e') h e = tt
+-- and for the source that has it
+pub run_due : (bytes : List ℕ) (budget : ℕ) (code : Code) → IsCompiled bytes code → (a : Answer) → IsCodeDue code budget a → IsRunDue bytes budget a
+run_due bytes budget code is a due = runs is.program is.notes is.runs (subst (λ (c : Code). IsCodeDue c budget a) is.compiled due)
 
--- the end of a term's code
-pub end_of : (t : Term) (n : ℕ) (o : table.Outcome) → EndsAsMeant t n o → Ends (code_of t) n o
-end_of t n o (value v is k at end) = end
-end_of t n o (overflow none le at end) = end
+-- such a code has no inputs
+pub no_params : (bytes : List ℕ) (code : Code) → IsCompiled bytes code → code.params ≡ []
+no_params bytes code is = ap (λ (c : Code). c.params) is.compiled ∙ ap (λ (ts : List Ty). each ty_param (each norm_ty ts)) is.runs.inputs
 
--- what is due for a code is due for its term
-term_due : (t : Term) (budget : ℕ) (a : Answer) → ((n : ℕ) × (o : table.Outcome) × EndsAsMeant t n o) → IsCodeDue (code_of t) budget a → IsTermDue t budget a
-term_due t budget a (n, o, meant) (ends k p le end is) =
-    let same = once k n (Goes (start (code_of t))) p o end (end_of t n o meant) in
-    in_time n o meant (omega (arith, same.0, le)) (is ∙ ap outcome_answer same.1)
-term_due t budget a (n, o, meant) (goes_on going is) =
-    too_late n o meant (later budget n (Goes (start (code_of t))) going.0 o going.1 (end_of t n o meant)) going is
+-- the text of the code that a source has
+pub text_due : {T : Type 0} (bytes : List ℕ) (code : Code) (bytes_of : T → List ℕ) (r : Result T SourceRefusal) → IsCompiled bytes code → IfOk r (λ text. CodeText code (bytes_of text)) → IfOk r (λ text. IsBuildDue bytes (written (bytes_of text)))
+text_due bytes code bytes_of (Ok text) is h = builds is.program is.notes is.runs refl (subst (λ (c : Code). CodeText c (bytes_of text)) is.compiled h)
+text_due bytes code bytes_of (Err e) is h = tt
+
+-- that there was no memory for it is no refusal
+pub text_lost : {T : Type 0} (bytes : List ℕ) (r : Result T SourceRefusal) → IfErr r (λ e. e ≡ no_text.Memory) → IfErr r (λ e. RefusesBuild bytes e)
+text_lost bytes (Ok text) h = tt
+text_lost bytes (Err e) h = subst (RefusesBuild bytes) (sym h) tt
+
+-- a source that has no code isn't built
+pub not_built : (bytes : List ℕ) (e : SourceRefusal) → Compiles bytes (Err e) → RefusesBuild bytes e
+not_built bytes (no_text.Refused number at) why = build_refused number at why refl
+not_built bytes no_text.Memory why = tt
+
+-- ---- checks
 
 pub check_due : {E : Type 0} (bytes : List ℕ) (P : Program) (t : Ty) (r : Result Reply E) → IsAcceptedSource bytes P → ∥ Has (body_context P) P.body t ∥₁ → IfOk r (λ a. seen a ≡ accepted t) → IfOk r (λ a. IsCheckDue bytes (seen a))
 check_due bytes P t (Ok a) is has h = checks P t is has h
@@ -66,28 +84,9 @@ pub refused_check : {E : Type 0} (bytes : List ℕ) (number : ℕ) (at : Span) (
 refused_check bytes number at (Ok a) is h = check_refused number at is h
 refused_check bytes number at (Err e) is h = tt
 
-pub run_due : {E : Type 0} (bytes : List ℕ) (code : List Block) (budget : ℕ) (r : Result Reply E) → IsCompiled bytes code → IfOk r (λ a. IsCodeDue code budget (seen a)) → IfOk r (λ a. IsRunDue bytes budget (seen a))
-run_due bytes code budget (Ok a) is h =
-    runs is.term is.program (term_due is.term budget (seen a) is.meant (subst (λ (c : List Block). IsCodeDue c budget (seen a)) is.compiled h))
-run_due bytes code budget (Err e) is h = tt
-
-pub refused_run : {E : Type 0} (bytes : List ℕ) (number : ℕ) (at : Span) (budget : ℕ) (r : Result Reply E) → HasNoCode bytes number at → IfOk r (λ a. seen a ≡ refused number at) → IfOk r (λ a. IsRunDue bytes budget (seen a))
-refused_run bytes number at budget (Ok a) is h = run_refused number at is h
-refused_run bytes number at budget (Err e) is h = tt
-
-pub build_due : {E : Type 0} (bytes : List ℕ) (code : List Block) (r : Result Reply E) → IsCompiled bytes code → IfOk r (λ a. seen a ≡ record { status = status.Ok; text = code_text code }) → IfOk r (λ a. IsBuildDue bytes (seen a))
-build_due bytes code (Ok a) is h =
-    builds is.term is.program
-    (record { status = ap (λ (x : Answer). x.status) h; text = subst (λ (c : List Block). CodeText c a.text.items) is.compiled (record { is = is.is; text = ap (λ (x : Answer). x.text) h }); meant = is.meant })
-build_due bytes code (Err e) is h = tt
-
-pub refused_build : {E : Type 0} (bytes : List ℕ) (number : ℕ) (at : Span) (r : Result Reply E) → HasNoCode bytes number at → IfOk r (λ a. seen a ≡ refused number at) → IfOk r (λ a. IsBuildDue bytes (seen a))
-refused_build bytes number at (Ok a) is h = build_refused number at is h
-refused_build bytes number at (Err e) is h = tt
-
-pub exec_due : {E : Type 0} (bytes : List ℕ) (code : List Block) (budget : ℕ) (r : Result Reply E) → length bytes ≤ longest_code → CodeText code bytes → IfOk r (λ a. IsCodeDue code budget (seen a)) → IfOk r (λ a. IsExecDue bytes budget (seen a))
-exec_due bytes code budget (Ok a) short is h = executes code short is h
-exec_due bytes code budget (Err e) short is h = tt
+pub built_due : {E : Type 0} (bytes : List ℕ) (a : Answer) (r : Result Reply E) → IsBuildDue bytes a → IfOk r (λ x. seen x ≡ a) → IfOk r (λ x. IsBuildDue bytes (seen x))
+built_due bytes a (Ok x) due h = subst (IsBuildDue bytes) (sym h) due
+built_due bytes a (Err e) due h = tt
 
 -- ---- calls
 
@@ -111,18 +110,18 @@ told_too_long job None a long is =
     (others.0, tt, job_too_long job others.0 a (omega (arith, others.1)) is)
 
 -- what is due is an answer
-outcome_answers : (o : table.Outcome) → IsAnswer (outcome_answer o).status
+outcome_answers : (o : table.Outcome Value) → IsAnswer (outcome_answer o).status
 outcome_answers (table.Done a) = tt
 outcome_answers (table.Trap k) = tt
 outcome_answers (table.Stuck k) = tt
 
-code_answers : (code : List Block) (budget : ℕ) (a : Answer) → IsCodeDue code budget a → IsAnswer a.status
+code_answers : (code : Code) (budget : ℕ) (a : Answer) → IsCodeDue code budget a → IsAnswer a.status
 code_answers code budget a (ends n o le end is) = subst (λ (b : Answer). IsAnswer b.status) (sym is) (outcome_answers o)
 code_answers code budget a (goes_on going is) = subst (λ (b : Answer). IsAnswer b.status) (sym is) tt
 
-term_answers : (t : Term) (budget : ℕ) (a : Answer) → IsTermDue t budget a → IsAnswer a.status
-term_answers t budget a (in_time n o meant le is) = subst (λ (b : Answer). IsAnswer b.status) (sym is) (outcome_answers o)
-term_answers t budget a (too_late n o meant lt going is) = subst (λ (b : Answer). IsAnswer b.status) (sym is) tt
+execution_answers : (code : Code) (budget : ℕ) (a : Answer) → IsExecutionDue code budget a → IsAnswer a.status
+execution_answers code budget a (not_executed some is) = subst (λ (b : Answer). IsAnswer b.status) (sym is) tt
+execution_answers code budget a (is_executed none due) = code_answers code budget a due
 
 check_answers : (bytes : List ℕ) (a : Answer) → IsCheckDue bytes a → IsAnswer a.status
 check_answers bytes a (check_refused number at why is) = subst (λ (b : Answer). IsAnswer b.status) (sym is) tt
@@ -130,16 +129,16 @@ check_answers bytes a (checks P t source has is) = subst (λ (b : Answer). IsAns
 
 run_answers : (bytes : List ℕ) (budget : ℕ) (a : Answer) → IsRunDue bytes budget a → IsAnswer a.status
 run_answers bytes budget a (run_refused number at why is) = subst (λ (b : Answer). IsAnswer b.status) (sym is) tt
-run_answers bytes budget a (runs t is due) = term_answers t budget a due
+run_answers bytes budget a (runs P notes is due) = code_answers (code_of_program P notes) budget a due
 
 build_answers : (bytes : List ℕ) (a : Answer) → IsBuildDue bytes a → IsAnswer a.status
 build_answers bytes a (build_refused number at why is) = subst (λ (b : Answer). IsAnswer b.status) (sym is) tt
-build_answers bytes a (builds t is built) = subst IsAnswer (sym built.status) tt
+build_answers bytes a (builds P notes is ok text) = subst IsAnswer (sym ok) tt
 
 exec_answers : (bytes : List ℕ) (budget : ℕ) (a : Answer) → IsExecDue bytes budget a → IsAnswer a.status
 exec_answers bytes budget a (text_too_long long is) = subst (λ (b : Answer). IsAnswer b.status) (sym is) tt
-exec_answers bytes budget a (no_code short none is) = subst (λ (b : Answer). IsAnswer b.status) (sym is) tt
-exec_answers bytes budget a (executes c short is due) = code_answers c budget a due
+exec_answers bytes budget a (no_code kind at short blame is) = subst (λ (b : Answer). IsAnswer b.status) (sym is) tt
+exec_answers bytes budget a (executes c short is due) = execution_answers c budget a due
 
 end_answers : (P : Program) (notes : List NodeNote) (budget : ℕ) (a : Answer) → HasEnd P notes budget a → IsAnswer a.status
 end_answers P notes budget a (reaches k v x le reached same is) = subst (λ (b : Answer). IsAnswer b.status) (sym is) tt

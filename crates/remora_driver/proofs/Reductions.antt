@@ -5,6 +5,7 @@ use Rattle.std.proofs.lemmas.Option.{none-some}
 use Rattle.std.proofs.Math.Logic.{∥∥₁_elim, ∥∥₁_map}
 use Rattle.core_syntax.specs.declared.checked.Checked.{Checked}
 use Rattle.core_syntax.specs.declared.errors.Memory.{Memory}
+use Rattle.core_syntax.specs.declared.errors.StuckKind.{StuckKind}
 use Rattle.core_syntax.specs.declared.errors.TrapKind.{TrapKind}
 use Rattle.core_syntax.specs.declared.program.Program.{Program}
 use Rattle.core_syntax.specs.declared.span.Span.{Span}
@@ -12,7 +13,7 @@ use Rattle.core_syntax.specs.Data.{FitsValues}
 use Rattle.core_syntax.specs.Lists.{each}
 use Rattle.core_syntax.specs.Literals.{LiteralsFit}
 use Rattle.core_syntax.specs.NormTypes.{norm_ty}
-use Rattle.core_syntax.specs.Notes.{ProgramNotesAre}
+use Rattle.core_syntax.specs.Notes.{NodeNote, ProgramNotesAre}
 use Rattle.core_syntax.specs.Refine.{ty_of}
 use Rattle.core_syntax.specs.RefineTerms.{term_of}
 use Rattle.core_syntax.specs.Start.{def_terms}
@@ -29,23 +30,24 @@ use Rattle.typed_step.specs.declared.closed.Next.{Next}
 use Rattle.typed_step.specs.declared.closed.Next.TheVariants as next
 use Rattle.typed_step.specs.Steps.{Reduced}
 use Rattle.reduction_laws.proofs.runs.Results.{reaches_data}
-use Rattle.remora_driver.specs.declared.answer.Reply.{Reply}
-use Rattle.remora_driver.specs.declared.calls.Answer.{Answer as Given}
-use Rattle.remora_driver.specs.declared.calls.Answer.TheVariants as given
+use Rattle.remora_driver.specs.declared.answer.Answer.{Answer as Given}
+use Rattle.remora_driver.specs.declared.answer.Answer.TheVariants as given
 use Rattle.remora_driver.specs.declared.errors.DataRefusal.{DataRefusal}
 use Rattle.remora_driver.specs.declared.errors.DataRefusal.TheVariants as no_data
 use Rattle.remora_driver.specs.declared.reducing.Reduction.{Reduction}
 use Rattle.remora_driver.specs.declared.reducing.Reduction.TheVariants as reduction
-use Rattle.remora_driver.specs.Due.{front, refused, IsRefused, IsAcceptedSource, reaches, traps, keeps_going, not_reduced, is_reduced, IsReduceDue, reduce_refused, reduces}
+use Rattle.remora_driver.specs.Calls.{IsUnstuck, ReducesSource}
+use Rattle.remora_driver.specs.Due.{Answer, stuck, HasEnd, reaches, traps, keeps_going, IsReductionDue, not_reduced, is_reduced, IsReduceDue, reduce_refused, reduces}
 use Rattle.remora_driver.specs.Jobs.{longest_source}
+use Rattle.remora_driver.specs.Programs.{IsAcceptedSource}
 use Rattle.remora_driver.specs.Reducible.{IsReducible}
-use Rattle.remora_driver.specs.Reductions.{notes_of, IsStarted, StandsAt, IsPrinted, IsValueOf, ended, EndsIn, IsCheckedDue, place_of, IsNoData, surplus, LooksForData, LooksForForms, Tells, TellsEnd, ReducesSource, ReducesChecked}
-use Rattle.remora_driver.specs.Sources.{seen}
+use Rattle.remora_driver.specs.Reductions.{notes_of, IsStarted, StandsAt, IsPrinted, IsValueOf, ended, EndsIn, IsCheckedDue, place_of, IsNoData, surplus, LooksForData, LooksForForms}
 
 -- ---- inputs
 
-none_fits : (P : syntax.Program) (inputs : List syntax.Ty) → IsReducible P → inputs ≡ each norm_ty P.inputs → FitsValues inputs []
-none_fits P inputs is e = subst (λ ts. FitsValues ts []) (sym (e ∙ ap (each norm_ty) is.inputs)) tt
+-- no data fits no inputs
+pub none_fits : (P : syntax.Program) (inputs : List syntax.Ty) → P.inputs ≡ [] → inputs ≡ each norm_ty P.inputs → FitsValues inputs []
+none_fits P inputs none e = subst (λ ts. FitsValues ts []) (sym (e ∙ ap (each norm_ty) none)) tt
 
 fits_one_way : (ts : List syntax.Ty) (x y : FitsValues ts []) → x ≡ y
 fits_one_way [] x y = refl
@@ -53,7 +55,7 @@ fits_one_way (t ∷ ts) x y = absurd x
 
 -- no data fits a program that is reduced today
 pub takes_none : (c : Checked) → IsReducible (program_of c.program) → FitsValues (each ty_of c.inputs) []
-takes_none c is = ∥∥₁_elim c.checked (fits_one_way (each ty_of c.inputs)) (λ x. none_fits (program_of c.program) (each ty_of c.inputs) is x.inputs_are)
+takes_none c is = ∥∥₁_elim c.checked (fits_one_way (each ty_of c.inputs)) (λ x. none_fits (program_of c.program) (each ty_of c.inputs) is.inputs x.inputs_are)
 
 -- ---- ends of runs
 
@@ -69,7 +71,7 @@ reached_prints c budget closed is literals stands =
     ∥∥₁_map c.checked (λ x. (
       ty_of c.body,
       reaches_data (program_of c.program) (ty_of c.body) (notes_of c) []
-          (record { inputs = each ty_of c.inputs; made = c.program.well_made; checked = x; fits = none_fits (program_of c.program) (each ty_of c.inputs) is x.inputs_are })
+          (record { inputs = each ty_of c.inputs; made = c.program.well_made; checked = x; fits = none_fits (program_of c.program) (each ty_of c.inputs) is.inputs x.inputs_are })
           literals stands.1.0 (term_of closed.term) stands.1.2,
     ))
 
@@ -85,7 +87,7 @@ ends_in_trap c budget kind stands = traps stands.0 kind stands.1 stands.2 refl
 pub ends_going : (c : Checked) (budget : ℕ) (closed : Closed) → StandsAt c budget (next.Goes closed) → EndsIn c budget (ended reduction.Going)
 ends_going c budget closed stands = keeps_going stands.2 refl
 
--- ---- replies
+-- ---- the test
 
 not_true : (b : Truth) → b ≡ false → IsTrue b → ⊥
 not_true b e h = let x : false ≡ true = sym e ∙ h in cc
@@ -98,27 +100,11 @@ module _ (c : Checked) (P : Program) (b : Truth) (same : P ≡ c.program) (tells
   pub not_reducible : b ≡ false → ¬ (IsReducible (program_of c.program))
   not_reducible e is = not_true b e (tells.1 (subst (λ (Q : Program). IsReducible (program_of Q)) (sym same) is))
 
-pub end_due : {E : Type 0} (c : Checked) (budget : ℕ) (e : Reduction) (r : Result Reply E) → IsReducible (program_of c.program) → EndsIn c budget (ended e) → IfOk r (λ a. seen a ≡ ended e) → IfOk r (λ a. IsCheckedDue c budget (seen a))
-end_due c budget e (Ok a) is end h = is_reduced is (subst (EndsIn c budget) (sym h) end)
-end_due c budget e (Err x) is end h = tt
-
-pub not_reduced_due : {E : Type 0} (c : Checked) (budget : ℕ) (r : Result Reply E) → ¬ (IsReducible (program_of c.program)) → IfOk r (λ a. seen a ≡ refused 90 front) → IfOk r (λ a. IsCheckedDue c budget (seen a))
-not_reduced_due c budget (Ok a) none h = not_reduced none h
-not_reduced_due c budget (Err x) none h = tt
-
 -- the notes of a checked program are those of the rules
 pub notes_are : (c : Checked) → ∥ ProgramNotesAre (program_of c.program) (notes_of c) ∥₁
 notes_are c = ∥∥₁_map c.checked (λ x. x.notes_are)
 
-pub reduce_due : {E : Type 0} (bytes : List ℕ) (budget : ℕ) (c : Checked) (r : Result Reply E) → IsAcceptedSource bytes (program_of c.program) → IfOk r (λ a. IsCheckedDue c budget (seen a)) → IfOk r (λ a. IsReduceDue bytes budget (seen a))
-reduce_due bytes budget c (Ok a) is h = reduces (program_of c.program) (notes_of c) is (notes_are c) h
-reduce_due bytes budget c (Err x) is h = tt
-
-pub refused_reduce : {E : Type 0} (bytes : List ℕ) (number : ℕ) (at : Span) (budget : ℕ) (r : Result Reply E) → IsRefused bytes number at → IfOk r (λ a. seen a ≡ refused number at) → IfOk r (λ a. IsReduceDue bytes budget (seen a))
-refused_reduce bytes number at budget (Ok a) is h = reduce_refused number at is h
-refused_reduce bytes number at budget (Err x) is h = tt
-
--- ---- calls
+-- ---- data
 
 -- a tree's form stands where the tree does
 at_form : (at : Span) (f : SexpForm) → place_of (form_at at f) ≡ at
@@ -142,30 +128,35 @@ looked bytes (more_forms f fs) (Ok v) short reads h = absurd h
 looked bytes (more_forms f fs) (Err (no_data.Refused number at)) short reads h = surplus f fs short reads h.0 h.1
 looked bytes (more_forms f fs) (Err no_data.Memory) short reads h = absurd h
 
--- the end of a reduction, told
-pub tells_end : (c : Checked) (budget : ℕ) (e : Reduction) (g : Given) → EndsIn c budget (ended e) → Tells (ended e) g → TellsEnd c budget g
-tells_end c budget e (given.Text text) end h = (ended e, end, h)
-tells_end c budget e (given.Trap why) end h = (ended e, end, h)
-tells_end c budget e (given.Refused number at) end h = absurd h
-tells_end c budget e (given.DataRefused number at) end h = absurd h
-tells_end c budget e (given.Stuck why) end h = absurd h
-tells_end c budget e given.StillRunning end h = (ended e, end, h)
-tells_end c budget e given.Memory end h = tt
+-- ---- calls
 
-pub calls_back : (c : Checked) (bytes : List ℕ) (budget : ℕ) (g : Given) → IsReducible (program_of c.program) → IsNoData bytes → TellsEnd c budget g → ReducesChecked c bytes budget g
-calls_back c bytes budget (given.Text text) is none h = (none, is_reduced is (subst (EndsIn c budget) h.2 h.1))
-calls_back c bytes budget (given.Trap why) is none h = (none, is_reduced is (subst (EndsIn c budget) h.2 h.1))
-calls_back c bytes budget (given.Refused number at) is none h = absurd h.2
-calls_back c bytes budget (given.DataRefused number at) is none h = absurd h.2
-calls_back c bytes budget (given.Stuck why) is none h = absurd h.2
-calls_back c bytes budget given.StillRunning is none h = (none, is_reduced is (subst (EndsIn c budget) h.2 h.1))
-calls_back c bytes budget given.Memory is none h = tt
+-- what is due of a checked program that is reduced
+pub reduced_due : (c : Checked) (budget : ℕ) (a : Answer) → IsReducible (program_of c.program) → EndsIn c budget a → IsCheckedDue c budget a
+reduced_due c budget a is end = is_reduced is end
 
-pub source_called : (source bytes : List ℕ) (budget : ℕ) (c : Checked) (g : Given) → IsAcceptedSource source (program_of c.program) → ReducesChecked c bytes budget g → ReducesSource source bytes budget g
-source_called source bytes budget c (given.Text text) is h = (h.0, reduces (program_of c.program) (notes_of c) is (notes_are c) h.1)
-source_called source bytes budget c (given.Trap why) is h = (h.0, reduces (program_of c.program) (notes_of c) is (notes_are c) h.1)
-source_called source bytes budget c (given.Refused number at) is h = reduces (program_of c.program) (notes_of c) is (notes_are c) h
-source_called source bytes budget c (given.DataRefused number at) is h = ((program_of c.program, is, h.0), h.1)
-source_called source bytes budget c (given.Stuck why) is h = absurd h
-source_called source bytes budget c given.StillRunning is h = (h.0, reduces (program_of c.program) (notes_of c) is (notes_are c) h.1)
-source_called source bytes budget c given.Memory is h = tt
+-- and of its source
+pub source_due : (source : List ℕ) (budget : ℕ) (c : Checked) (a : Answer) → IsAcceptedSource source (program_of c.program) → IsCheckedDue c budget a → IsReduceDue source budget a
+source_due source budget c a is due = reduces (program_of c.program) (notes_of c) is (notes_are c) due
+
+-- which is never that it is stuck
+end_unstuck : (P : syntax.Program) (notes : List NodeNote) (budget : ℕ) (kind : StuckKind) → HasEnd P notes budget (stuck kind) → ⊥
+end_unstuck P notes budget kind (reaches k v x le r same is) = let e = ap (λ (a : Answer). a.status) is in cc
+end_unstuck P notes budget kind (traps k why le r is) = let e = ap (λ (a : Answer). a.status) is in cc
+end_unstuck P notes budget kind (keeps_going going is) = let e = ap (λ (a : Answer). a.status) is in cc
+
+reduction_unstuck : (P : syntax.Program) (notes : List NodeNote) (budget : ℕ) (kind : StuckKind) → IsReductionDue P notes budget (stuck kind) → ⊥
+reduction_unstuck P notes budget kind (not_reduced none is) = let e = ap (λ (a : Answer). a.status) is in cc
+reduction_unstuck P notes budget kind (is_reduced reducible end) = end_unstuck P notes budget kind end
+
+reduce_unstuck : (source : List ℕ) (budget : ℕ) (kind : StuckKind) → IsReduceDue source budget (stuck kind) → ⊥
+reduce_unstuck source budget kind (reduce_refused number at why is) = let e = ap (λ (a : Answer). a.status) is in cc
+reduce_unstuck source budget kind (reduces P notes is are due) = reduction_unstuck P notes budget kind due
+
+pub source_unstuck : (source bytes : List ℕ) (budget : ℕ) (g : Given) → ReducesSource source bytes budget g → IsUnstuck g
+source_unstuck source bytes budget (given.Text text) h = tt
+source_unstuck source bytes budget (given.Trap kind) h = tt
+source_unstuck source bytes budget (given.Refused number at) h = tt
+source_unstuck source bytes budget (given.DataRefused number at) h = tt
+source_unstuck source bytes budget (given.Stuck kind) h = reduce_unstuck source budget kind h.1
+source_unstuck source bytes budget given.StillRunning h = tt
+source_unstuck source bytes budget given.Memory h = tt

@@ -1,27 +1,25 @@
--- What is due for a source, from what the reader, the names and the lowering say.
-use Rattle.std.proofs.Common.{◌≡◌, sym, subst, ℕ, ◌≤◌, List, length, Option, Some, Result, Ok, Err}
+-- What is due for a source, from what the reader, the names, the checker and the compiler say.
+use Rattle.std.proofs.Common.{◌≡◌, sym, subst, ℕ, ◌≤◌, List, [], length, Result, Ok, Err}
 use Rattle.std.proofs.Math.Logic.{∥∥₁_map}
 use Rattle.core_syntax.specs.declared.checked.Checked.{Checked}
 use Rattle.core_syntax.specs.declared.program.Program.{Program}
-use Rattle.core_syntax.specs.Made.{IsWellMade}
-use Rattle.core_syntax.specs.Blame.{IsAccepted}
+use Rattle.core_syntax.specs.Lists.{each}
+use Rattle.core_syntax.specs.Refine.{ty_of}
 use Rattle.core_syntax.specs.Syntax as syntax
 use Rattle.core_syntax.specs.Wholes.{program_of}
 use Rattle.sexp_reader.specs.Forms.{Forms}
 use Rattle.sexp_reader.specs.Reads.{Reads}
-use Rattle.code_text.specs.declared.code.Block.{Block}
+use Rattle.machine_table.specs.Codes.{Code}
+use Rattle.reduction_laws.specs.Laws.{IsReady}
 use Rattle.type_check.proofs.Accepted.{accepted_typed}
 use Rattle.remora_driver.specs.declared.errors.SourceRefusal.{SourceRefusal}
 use Rattle.remora_driver.specs.declared.errors.SourceRefusal.TheVariants.{Refused, Memory}
-use Rattle.remora_driver.specs.Bodies.{body_term}
-use Rattle.remora_driver.specs.Due.{IsSource, IsAcceptedSource, unresolved, ill_typed, not_accepted, not_built}
+use Rattle.remora_driver.specs.Due.{unresolved, ill_typed, not_accepted, has_inputs}
 use Rattle.remora_driver.specs.Jobs.{longest_source}
-use Rattle.remora_driver.specs.Sources.{Resolves, ResolvesSource, ChecksProgram, ChecksSource, CompilesTerm, CompilesProgram, Compiles}
-use Rattle.remora_driver.specs.Terms.{Term}
-use Rattle.remora_driver.proofs.Bodies.{body_has}
-use Rattle.remora_driver.proofs.Framed.{body_framed}
-use Rattle.remora_driver.proofs.Made.{body_made}
-use Rattle.remora_driver.proofs.Simulates.{ends_as_meant}
+use Rattle.remora_driver.specs.Programs.{IsSource, IsAcceptedSource}
+use Rattle.remora_driver.specs.Reductions.{notes_of}
+use Rattle.remora_driver.specs.Sources.{Resolves, ResolvesSource, ChecksProgram, ChecksSource, CompilesChecked, Compiles}
+use Rattle.remora_driver.proofs.Reductions.{none_fits}
 
 -- a source that reads as forms
 pub source_resolved : (bytes : List ℕ) (fs : Forms) (r : Result Program SourceRefusal) → length bytes ≤ longest_source → Reads bytes fs → Resolves fs r → ResolvesSource bytes r
@@ -41,33 +39,27 @@ source_checked bytes P (Ok c) short is same =
 source_checked bytes P (Err (Refused number at)) short is blamed = ill_typed (program_of P) short is blamed
 source_checked bytes P (Err Memory) short is blamed = tt
 
--- the code of a checked program's term
-pub program_compiled : (P : syntax.Program) (t : Term) (r : Result (List Block) SourceRefusal) → IsWellMade P → ∥ IsAccepted P ∥₁ → body_term P ≡ Some t → CompilesTerm t r → CompilesProgram P r
-program_compiled P t (Ok code) made accepted body is =
-    let runs = body_has P t body in
-    let framed = body_framed P t runs accepted in
-    record { term = t; runs = runs; compiled = is.0; is = is.1; meant = ends_as_meant t (body_made P t made runs) framed.0 framed.1 }
-program_compiled P t (Err (Refused number at)) made accepted body is = absurd is
-program_compiled P t (Err Memory) made accepted body is = tt
+-- a checked program without inputs, and no data
+checked_ready : (c : Checked) → (program_of c.program).inputs ≡ [] → ∥ ((t : syntax.Ty) × IsReady (program_of c.program) t (notes_of c) []) ∥₁
+checked_ready c none =
+    ∥∥₁_map c.checked (λ x. (
+      ty_of c.body,
+      record { inputs = each ty_of c.inputs; made = c.program.well_made; checked = x; fits = none_fits (program_of c.program) (each ty_of c.inputs) none x.inputs_are },
+    ))
 
 -- the code of a source's program
-pub source_compiled : (bytes : List ℕ) (P : syntax.Program) (r : Result (List Block) SourceRefusal) → IsAcceptedSource bytes P → CompilesProgram P r → Compiles bytes r
-source_compiled bytes P (Ok code) is coded =
+pub source_compiled : (bytes : List ℕ) (c : Checked) (r : Result Code SourceRefusal) → IsAcceptedSource bytes (program_of c.program) → CompilesChecked c r → Compiles bytes r
+source_compiled bytes c (Ok code) is h =
     record {
-      term = coded.term;
-      program = record { program = P; source = is; body = coded.runs };
-      compiled = coded.compiled;
-      is = coded.is;
-      meant = coded.meant;
+      program = program_of c.program;
+      notes = notes_of c;
+      runs = record { source = is; inputs = h.0; literals = h.1; ready = checked_ready c h.0 };
+      compiled = h.2;
     }
-source_compiled bytes P (Err (Refused number at)) is why = not_built P is why.0 why.1 why.2
-source_compiled bytes P (Err Memory) is why = tt
+source_compiled bytes c (Err (Refused number at)) is h = has_inputs (program_of c.program) is h.0 h.1 h.2
+source_compiled bytes c (Err Memory) is h = tt
 
 -- a source that isn't accepted has no code
 pub not_compiled : (bytes : List ℕ) (e : SourceRefusal) → ChecksSource bytes (Err e) → Compiles bytes (Err e)
 not_compiled bytes (Refused number at) why = not_accepted why
 not_compiled bytes Memory why = tt
-
--- what is read of a program is read of an equal one
-pub read_of_same : (P Q : Program) (o : Option Term) → P ≡ Q → body_term (program_of P) ≡ o → body_term (program_of Q) ≡ o
-read_of_same P Q o same is = subst (λ (p : Program). body_term (program_of p) ≡ o) same is

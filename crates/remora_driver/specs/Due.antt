@@ -1,43 +1,48 @@
 -- The answers that are due.
-use Rattle.std.specs.Prelude.{◌≡◌, ℕ, ◌+◌, ◌<◌, ◌≤◌, List, [], length, Some, None}
+use Rattle.std.specs.Prelude.{◌≡◌, ℕ, ◌<◌, ◌≤◌, List, [], length, Some}
 use Rattle.core_syntax.specs.declared.span.Span.{Span}
 use Rattle.core_syntax.specs.declared.errors.StuckKind.{StuckKind}
 use Rattle.core_syntax.specs.declared.errors.TrapKind.{TrapKind}
-use Rattle.core_syntax.specs.declared.errors.TrapKind.TheVariants.{Overflow}
-use Rattle.core_syntax.specs.Blame.{Blames, IsAccepted}
+use Rattle.core_syntax.specs.Blame.{Blames}
 use Rattle.core_syntax.specs.Data.{array_of_value}
 use Rattle.core_syntax.specs.Notes.{NodeNote, ProgramNotesAre}
 use Rattle.core_syntax.specs.Start.{Reaches, SourceTraps, SourceGoes}
 use Rattle.core_syntax.specs.Syntax.{Ty, Program}
 use Rattle.core_syntax.specs.Typed.{typed_rules, TypedTerm}
-use Rattle.core_syntax.specs.Typing.{Has, Typed, body_context}
+use Rattle.core_syntax.specs.Typing.{Has, body_context}
 use Rattle.array_values.specs.Data.{array_data}
 use Rattle.array_values.specs.Values.{Array}
-use Rattle.code_text.specs.declared.code.Block.{Block}
-use Rattle.code_text.specs.Blame.{CodeText}
-use Rattle.code_text.specs.Ends.{Ends, GoesOn}
-use Rattle.code_text.specs.Machine.{Outcome, Done, Trap, Stuck}
+use Rattle.array_values.specs.declared.value.Value.{Value}
+use Rattle.machine_table.specs.Codes.{Code}
+use Rattle.machine_table.specs.Ends.{Ends}
+use Rattle.machine_table.specs.Machine.{Outcome, Done, Trap, Stuck}
+use Rattle.machine_table.specs.ValueRules.{value_rules}
+use Rattle.code_text.specs.Blame.{CodeText, Blame}
+use Rattle.code_text.specs.declared.refusal.CodeKind.{CodeKind}
+use Rattle.code_text.specs.declared.refusal.CodeKind.TheVariants.{Byte, End}
+use Rattle.lowering.specs.Laws.{code_of_program}
 use Rattle.sexp_reader.specs.Forms.{Forms}
 use Rattle.sexp_reader.specs.Reads.{Reads, read_blame}
-use Rattle.name_resolve.specs.Means.{Means, NameBlame}
+use Rattle.name_resolve.specs.Means.{NameBlame}
 use Rattle.remora_driver.specs.declared.job.Job.{Job}
 use Rattle.remora_driver.specs.declared.job.Job.TheVariants.{Check, Build, Run, Exec, Reduce}
 use Rattle.remora_driver.specs.declared.status.Status.{Status}
 use Rattle.remora_driver.specs.declared.status.Status.TheVariants as status
-use Rattle.remora_driver.specs.Arrays.{Integers, values}
-use Rattle.remora_driver.specs.Fragment.{RunsToday}
 use Rattle.remora_driver.specs.Jobs.{longest_source, longest_code, IsJob, IsCall}
-use Rattle.remora_driver.specs.Lowering.{code_of, steps_of}
+use Rattle.remora_driver.specs.Places.{bytes_behind}
+use Rattle.remora_driver.specs.Programs.{IsSource, IsAcceptedSource, IsProgram}
 use Rattle.remora_driver.specs.Reducible.{IsReducible}
-use Rattle.remora_driver.specs.Terms.{Term}
 use Rattle.value_text.specs.ValueText.{array_text}
 use Rattle.remora_driver.specs.Texts.{line, accepted_text, refusal_text, trap_text, stuck_text, still_running_text, usage_text}
-use Rattle.remora_driver.specs.Values.{value_of}
 
 -- a status, and the text that is written with it
 pub record Answer : Type 0 where
   pub status : Status
   pub text : List ℕ
+
+-- a text that is made
+abbrev pub written : List ℕ → Answer
+written text = record { status = status.Ok; text = text }
 
 -- the usage line
 abbrev pub usage : Answer
@@ -49,11 +54,11 @@ refused number at = record { status = status.Refused number at; text = line (ref
 
 -- the type of an accepted program's body, and its line
 abbrev pub accepted : Ty → Answer
-accepted t = record { status = status.Ok; text = line (accepted_text t) }
+accepted t = written (line (accepted_text t))
 
 -- a value and its line
 abbrev pub shown : Array → Answer
-shown a = record { status = status.Ok; text = line (array_text a) }
+shown a = written (line (array_text a))
 
 -- a trap and its line
 abbrev pub trapped : TrapKind → Answer
@@ -73,41 +78,27 @@ front = record { from = 0; to = 0; line = 1; col = 1 }
 
 -- ---- runs of code
 
+-- the code on these inputs hasn't ended with any of its first steps, of which there are so many
+abbrev pub StillRuns : Code → List Array → ℕ → Type 0
+StillRuns code inputs budget = (n : ℕ) (o : Outcome Value) → n ≤ budget → ¬ (Ends value_rules code inputs n o)
+
 -- the answer that shows how a run ends
-abbrev pub outcome_answer : Outcome → Answer
+abbrev pub outcome_answer : Outcome Value → Answer
 outcome_answer (Done a) = shown a
 outcome_answer (Trap kind) = trapped kind
 outcome_answer (Stuck kind) = stuck kind
 
--- what is due for a code of which so many steps may be done
-pub data IsCodeDue (code : List Block) (budget : ℕ) (a : Answer) : Type 0 where
-  ends : (n : ℕ) (o : Outcome) → n ≤ budget → Ends code n o → a ≡ outcome_answer o → IsCodeDue code budget a
-  goes_on : GoesOn code budget → a ≡ still_running → IsCodeDue code budget a
+-- what is due for a code without inputs of which so many steps may be done
+pub data IsCodeDue (code : Code) (budget : ℕ) (a : Answer) : Type 0 where
+  ends : (n : ℕ) (o : Outcome Value) → n ≤ budget → Ends value_rules code [] n o → a ≡ outcome_answer o → IsCodeDue code budget a
+  goes_on : StillRuns code [] budget → a ≡ still_running → IsCodeDue code budget a
 
--- The code of a term ends as the term means: with its value, after exactly the stated number of steps, or with the trap
--- where the value overflows.
-pub data EndsAsMeant (t : Term) (n : ℕ) (o : Outcome) : Type 0 where
-  value : (v : Integers) → value_of t ≡ Some v → n ≡ steps_of t + 1 → o ≡ Done (values v) → Ends (code_of t) n o → EndsAsMeant t n o
-  overflow : value_of t ≡ None → n ≤ steps_of t → o ≡ Trap Overflow → Ends (code_of t) n o → EndsAsMeant t n o
-
--- what is due for a term, of whose code so many steps may be done
-pub data IsTermDue (t : Term) (budget : ℕ) (a : Answer) : Type 0 where
-  in_time : (n : ℕ) (o : Outcome) → EndsAsMeant t n o → n ≤ budget → a ≡ outcome_answer o → IsTermDue t budget a
-  too_late : (n : ℕ) (o : Outcome) → EndsAsMeant t n o → budget < n → GoesOn (code_of t) budget → a ≡ still_running → IsTermDue t budget a
-
--- the text of the term's code, which is the text of a code, and of one that ends as the term means
-pub record IsBuilt (t : Term) (a : Answer) : Type 0 where
-  pub status : a.status ≡ status.Ok
-  pub text : CodeText (code_of t) a.text
-  pub meant : (n : ℕ) × (o : Outcome) × EndsAsMeant t n o
+-- what is due for a code that is to be executed: it has inputs, and isn't executed today, or it ends so
+pub data IsExecutionDue (code : Code) (budget : ℕ) (a : Answer) : Type 0 where
+  not_executed : ¬ (code.params ≡ []) → a ≡ refused 90 front → IsExecutionDue code budget a
+  is_executed : code.params ≡ [] → IsCodeDue code budget a → IsExecutionDue code budget a
 
 -- ---- programs
-
--- the text means this program
-pub record IsSource (bytes : List ℕ) (P : Program) : Type 0 where
-  pub forms : Forms
-  pub reads : Reads bytes forms
-  pub means : Means forms P
 
 -- why a program source is refused, in this order
 pub data IsRefused (bytes : List ℕ) (number : ℕ) (at : Span) : Type 0 where
@@ -119,39 +110,25 @@ pub data IsRefused (bytes : List ℕ) (number : ℕ) (at : Span) : Type 0 where
   -- 13 to 30: the program that it means isn't typed, or a measure is too large
   ill_typed : (P : Program) → length bytes ≤ longest_source → IsSource bytes P → Blames P (number, at) → IsRefused bytes number at
 
--- the text means this program, which is typed and whose measures hold
-pub record IsAcceptedSource (bytes : List ℕ) (P : Program) : Type 0 where
-  pub short : length bytes ≤ longest_source
-  pub means : IsSource bytes P
-  pub accepted : ∥ IsAccepted P ∥₁
-  -- the rules of typing type it
-  pub typed : ∥ Typed P ∥₁
-
 -- what is due for a program source that is checked: its refusal, or the type of its program's body
 pub data IsCheckDue (bytes : List ℕ) (a : Answer) : Type 0 where
   check_refused : (number : ℕ) (at : Span) → IsRefused bytes number at → a ≡ refused number at → IsCheckDue bytes a
   checks : (P : Program) (t : Ty) → IsAcceptedSource bytes P → ∥ Has (body_context P) P.body t ∥₁ → a ≡ accepted t → IsCheckDue bytes a
 
--- why a program source has no code: it is refused, or its program is accepted but doesn't run today
+-- why a program source has no code today: it is refused, or its program is accepted and has inputs
 pub data HasNoCode (bytes : List ℕ) (number : ℕ) (at : Span) : Type 0 where
   not_accepted : IsRefused bytes number at → HasNoCode bytes number at
-  not_built : (P : Program) → IsAcceptedSource bytes P → ((t : Term) → ¬ (RunsToday P t)) → number ≡ 90 → at ≡ front → HasNoCode bytes number at
+  has_inputs : (P : Program) → IsAcceptedSource bytes P → ¬ (P.inputs ≡ []) → number ≡ 90 → at ≡ front → HasNoCode bytes number at
 
--- the text means an accepted program that runs today, with this body
-pub record IsProgram (bytes : List ℕ) (t : Term) : Type 0 where
-  pub program : Program
-  pub source : IsAcceptedSource bytes program
-  pub body : RunsToday program t
-
--- what is due for a program source that is run
-pub data IsRunDue (bytes : List ℕ) (budget : ℕ) (a : Answer) : Type 0 where
-  run_refused : (number : ℕ) (at : Span) → HasNoCode bytes number at → a ≡ refused number at → IsRunDue bytes budget a
-  runs : (t : Term) → IsProgram bytes t → IsTermDue t budget a → IsRunDue bytes budget a
-
--- what is due for a program source of which the code is built
+-- what is due for a program source of which the code is built: the text of the code
 pub data IsBuildDue (bytes : List ℕ) (a : Answer) : Type 0 where
   build_refused : (number : ℕ) (at : Span) → HasNoCode bytes number at → a ≡ refused number at → IsBuildDue bytes a
-  builds : (t : Term) → IsProgram bytes t → IsBuilt t a → IsBuildDue bytes a
+  builds : (P : Program) (notes : List NodeNote) → IsProgram bytes P notes → a.status ≡ status.Ok → CodeText (code_of_program P notes) a.text → IsBuildDue bytes a
+
+-- what is due for a program source that is run: how its code ends
+pub data IsRunDue (bytes : List ℕ) (budget : ℕ) (a : Answer) : Type 0 where
+  run_refused : (number : ℕ) (at : Span) → HasNoCode bytes number at → a ≡ refused number at → IsRunDue bytes budget a
+  runs : (P : Program) (notes : List NodeNote) → IsProgram bytes P notes → IsCodeDue (code_of_program P notes) budget a → IsRunDue bytes budget a
 
 -- ---- reduction
 
@@ -173,11 +150,21 @@ pub data IsReduceDue (bytes : List ℕ) (budget : ℕ) (a : Answer) : Type 0 whe
 
 -- ---- code texts
 
+-- the number of a code text's refusal
+abbrev pub text_number : CodeKind → ℕ
+text_number Byte = 32
+text_number End = 33
+
+-- and its place: the first byte with which no code text goes on, or the end
+abbrev pub text_place : CodeKind → ℕ → List ℕ → Span
+text_place Byte at bytes = bytes_behind at 1 bytes
+text_place End at bytes = bytes_behind at 0 bytes
+
 -- what is due for a code text, in this order
 pub data IsExecDue (bytes : List ℕ) (budget : ℕ) (a : Answer) : Type 0 where
   text_too_long : longest_code < length bytes → a ≡ refused 31 front → IsExecDue bytes budget a
-  no_code : length bytes ≤ longest_code → ((c : List Block) → ¬ (CodeText c bytes)) → a ≡ refused 90 front → IsExecDue bytes budget a
-  executes : (c : List Block) → length bytes ≤ longest_code → CodeText c bytes → IsCodeDue c budget a → IsExecDue bytes budget a
+  no_code : (kind : CodeKind) (at : ℕ) → length bytes ≤ longest_code → Blame kind bytes at → a ≡ refused (text_number kind) (text_place kind at bytes) → IsExecDue bytes budget a
+  executes : (c : Code) → length bytes ≤ longest_code → CodeText c bytes → IsExecutionDue c budget a → IsExecDue bytes budget a
 
 -- ---- calls
 

@@ -15,16 +15,12 @@ use Rattle.typed_step.specs.declared.closed.Closed.{Closed}
 use Rattle.typed_step.specs.declared.closed.Next.{Next}
 use Rattle.typed_step.specs.Steps.{IsTerm, Reduced}
 use Rattle.array_values.specs.Data.{array_data}
-use Rattle.remora_driver.specs.declared.calls.Answer.{Answer as Given}
-use Rattle.remora_driver.specs.declared.calls.Answer.TheVariants as given
 use Rattle.remora_driver.specs.declared.errors.DataRefusal.{DataRefusal}
 use Rattle.remora_driver.specs.declared.errors.DataRefusal.TheVariants as no_data
 use Rattle.remora_driver.specs.declared.reducing.Reduction.{Reduction}
 use Rattle.remora_driver.specs.declared.reducing.Reduction.TheVariants as reduction
-use Rattle.remora_driver.specs.declared.status.Status.TheVariants as status
-use Rattle.remora_driver.specs.Due.{Answer, front, refused, shown, trapped, still_running, IsAcceptedSource, HasEnd, IsReductionDue, IsReduceDue}
+use Rattle.remora_driver.specs.Due.{Answer, front, shown, trapped, still_running, HasEnd, IsReductionDue}
 use Rattle.remora_driver.specs.Jobs.{longest_source}
-use Rattle.remora_driver.specs.Reducible.{IsReducible}
 
 -- the notes of a checked program's nodes
 abbrev pub notes_of : Checked → List NodeNote
@@ -94,42 +90,3 @@ LooksForForms no_forms (Err e) = ⊥
 LooksForForms (more_forms f fs) (Ok v) = ⊥
 LooksForForms (more_forms f fs) (Err (no_data.Refused number at)) = (number ≡ 41) × (at ≡ place_of f)
 LooksForForms (more_forms f fs) (Err no_data.Memory) = ⊥
-
--- ---- calls
-
--- a source's program is accepted, and is reduced today
-abbrev pub IsReduced : List ℕ → Type 0
-IsReduced source = (P : syntax.Program) × IsAcceptedSource source P × IsReducible P
-
--- the answer shows how a reduction ends, or there was no memory
-abbrev pub Tells : Answer → Given → Type 0
-Tells a (given.Text text) = a ≡ record { status = status.Ok; text = text.items }
-Tells a (given.Trap kind) = a ≡ trapped kind
-Tells a (given.Refused number at) = ⊥
-Tells a (given.DataRefused number at) = ⊥
-Tells a (given.Stuck why) = ⊥
-Tells a given.StillRunning = a ≡ still_running
-Tells a given.Memory = Unit {0}
-
--- the answer shows how at most so many steps of the checked program end
-abbrev pub TellsEnd : Checked → ℕ → Given → Type 0
-TellsEnd c budget given.Memory = Unit {0}
-TellsEnd c budget g = (a : Answer) × EndsIn c budget a × Tells a g
-
--- what is answered where this is due of a program that may be reduced: why the program isn't reduced, else why the data is refused, else the end
-abbrev pub CallsBack : (Answer → Type 0) → Type 0 → List ℕ → Given → Type 0
-CallsBack IsDue IsTaken bytes (given.Text text) = IsNoData bytes × IsDue (record { status = status.Ok; text = text.items })
-CallsBack IsDue IsTaken bytes (given.Trap kind) = IsNoData bytes × IsDue (trapped kind)
-CallsBack IsDue IsTaken bytes (given.Refused number at) = IsDue (refused number at)
-CallsBack IsDue IsTaken bytes (given.DataRefused number at) = IsTaken × IsSurplus bytes number at
-CallsBack IsDue IsTaken bytes (given.Stuck why) = ⊥
-CallsBack IsDue IsTaken bytes given.StillRunning = IsNoData bytes × IsDue still_running
-CallsBack IsDue IsTaken bytes given.Memory = Unit {0}
-
--- the answer of a call that reduces a source
-abbrev pub ReducesSource : List ℕ → List ℕ → ℕ → Given → Type 0
-ReducesSource source bytes budget = CallsBack (IsReduceDue source budget) (IsReduced source) bytes
-
--- and a checked program
-abbrev pub ReducesChecked : Checked → List ℕ → ℕ → Given → Type 0
-ReducesChecked c bytes budget = CallsBack (IsCheckedDue c budget) (IsReducible (program_of c.program)) bytes

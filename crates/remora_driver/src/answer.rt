@@ -1,112 +1,37 @@
-// Replies: a status, and the text that is written with it.
-ghost use Rattle.std.specs.Prelude.{◌≡◌, IfOk, string_bytes};
-ghost use Rattle.core_syntax.specs.declared.span.Span.{Span};
-ghost use Rattle.core_syntax.specs.Refine.{ty_of};
-ghost use Rattle.remora_driver.specs.Due.{refused, trapped, stuck as stuck_answer, still_running as still_running_answer, shown, accepted, usage, front};
-ghost use Rattle.remora_driver.specs.Sources.{seen};
+// What calls answer.
+ghost use Rattle.remora_driver.specs.Calls.{Tells};
+ghost use Rattle.remora_driver.specs.Due.{shown};
 
-use crate::status::Status;
-use crate::texts::{
-    array_line, refusal_line, still_running_line, stuck_line, trap_line, type_line, usage_line,
-};
+use crate::texts::array_line;
 use array_values::Array;
-use core_syntax::{Memory, Span, StuckKind, TrapKind, Ty};
+use core_syntax::{Memory, Span, StuckKind, TrapKind};
 use std::alloc::Global;
 
-/// A status, and the text that is written with it.
+/// What a call on a source or a code text answers.
 #[derive(Drop)]
-pub struct Reply {
-    pub status: Status,
-    pub text: Vec<u8>,
-}
-
-// The answer of a status and a line.
-fn with_line(status: Status, line: String) -> Reply
-    ensures { seen result ≡ record { status = status; text = string_bytes line } }
-{
-    Reply {
-        status,
-        text: line.into_bytes(),
-    }
-}
-
-/// The start of a text.
-pub const FRONT: Span = Span {
-    from: 0,
-    to: 0,
-    line: 1,
-    col: 1,
-};
-
-/// The number of what is not built yet.
-pub const NOT_BUILT: u8 = 90;
-
-/// The number of a source that is too long.
-pub const TOO_LONG: u8 = 31;
-
-/// The answer to a source that is refused with this number at this place.
-pub fn refusal(alloc: Global, number: u8, span: Span) -> Result<Reply, Memory>
-    ensures { IfOk result (λ a. seen a ≡ refused number span) }
-{
-    Ok(with_line(
-        Status::Refused { number, span },
-        refusal_line(alloc, number, span)?,
-    ))
-}
-
-/// The answer of a run that traps.
-pub fn trap(alloc: Global, kind: TrapKind) -> Result<Reply, Memory>
-    ensures { IfOk result (λ a. seen a ≡ trapped kind) }
-{
-    Ok(with_line(Status::Trap(kind), trap_line(alloc, kind)?))
-}
-
-/// The answer of a machine that is stuck.
-pub fn stuck(alloc: Global, kind: StuckKind) -> Result<Reply, Memory>
-    ensures { IfOk result (λ a. seen a ≡ stuck_answer kind) }
-{
-    Ok(with_line(Status::Stuck(kind), stuck_line(alloc, kind)?))
-}
-
-/// The answer of a run that hadn't ended within its budget.
-pub fn still_running(alloc: Global) -> Result<Reply, Memory>
-    ensures { IfOk result (λ a. seen a ≡ still_running_answer) }
-{
-    Ok(with_line(Status::StillRunning, still_running_line(alloc)?))
+pub enum Answer {
+    /// The line of a value.
+    Text(Vec<u8>),
+    /// The run trapped.
+    Trap(TrapKind),
+    /// The source or the code text was refused with this number at this place.
+    Refused { number: u8, span: Span },
+    /// The data was refused with this number at this place.
+    DataRefused { number: u8, span: Span },
+    /// The machine was stuck.
+    Stuck(StuckKind),
+    /// The run hadn't ended within its budget.
+    StillRunning,
+    /// There was no memory.
+    Memory,
 }
 
 /// The answer that shows an array.
-pub fn shown_array(alloc: Global, array: &Array) -> Result<Reply, Memory>
-    ensures { IfOk result (λ a. seen a ≡ shown array.now) }
+pub fn array_answer(alloc: Global, array: &Array) -> Answer
+    ensures { Tells (shown array.now) result }
 {
-    let text = array_line(alloc, array)?;
-    Ok(Reply {
-        status: Status::Ok,
-        text,
-    })
-}
-
-/// The answer that shows the type of an accepted program's body. The type is measured.
-pub fn type_answer(alloc: Global, ty: &Ty) -> Result<Reply, Memory>
-    ensures { IfOk result (λ a. seen a ≡ accepted (ty_of ty.now)) }
-{
-    let text = type_line(alloc, ty)?;
-    Ok(Reply {
-        status: Status::Ok,
-        text,
-    })
-}
-
-/// The answer to words that are no call.
-pub fn usage_answer(alloc: Global) -> Result<Reply, Memory>
-    ensures { IfOk result (λ a. seen a ≡ usage) }
-{
-    Ok(with_line(Status::Usage, usage_line(alloc)?))
-}
-
-/// The answer to a source that is longer than the limit.
-pub fn too_long(alloc: Global) -> Result<Reply, Memory>
-    ensures { IfOk result (λ a. seen a ≡ refused 31 front) }
-{
-    refusal(alloc, TOO_LONG, FRONT)
+    match array_line(alloc, array) {
+        Ok(text) => Answer::Text(text),
+        Err(Memory) => Answer::Memory,
+    }
 }

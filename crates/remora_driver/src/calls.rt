@@ -1,46 +1,60 @@
 // Calls on a source.
-ghost use Rattle.remora_driver.specs.Due.{shown};
-ghost use Rattle.remora_driver.specs.Reducible.{IsReducible};
-ghost use Rattle.remora_driver.specs.Reductions.{ended, TellsEnd, ReducesChecked, ReducesSource, Tells};
+ghost use Rattle.std.specs.Prelude.{◌≡◌, IfOk, IfErr};
+ghost use Rattle.code_text.specs.Blame.{CodeText};
 ghost use Rattle.core_syntax.specs.Wholes.{program_of};
+ghost use Rattle.remora_driver.specs.Due.{written, IsBuildDue};
+ghost use Rattle.remora_driver.specs.Calls.{RefusesBuild, RunsSource, ReducesChecked, ReducesSource, IsUnstuck, Tells, TellsDue};
+ghost use Rattle.remora_driver.specs.Reducible.{IsReducible};
+ghost use Rattle.remora_driver.specs.Reductions.{ended, EndsIn};
 
-use crate::answer::{FRONT, NOT_BUILT};
+use crate::answer::{Answer, array_answer};
+use crate::compiling::compile;
 use crate::data::no_data;
-use crate::errors::{DataRefusal, SourceRefusal};
+use crate::errors::{DataRefusal, FRONT, NOT_BUILT, SourceRefusal};
 use crate::reducible::is_reducible;
 use crate::reducing::{Reduction, reduce_program};
+use crate::running::run_code;
 use crate::source::check_source;
-use crate::texts::array_line;
-use array_values::Array;
-use core_syntax::{Checked, Memory, Span, StuckKind, TrapKind};
+use code_text::print;
+use core_syntax::{Checked, Memory};
+use machine_table::Code;
 use std::alloc::Global;
 
-/// What a call on a source answers.
-#[derive(Drop)]
-pub enum Answer {
-    /// The line of a value.
-    Text(Vec<u8>),
-    /// The run trapped.
-    Trap(TrapKind),
-    /// The source was refused with this number at this place.
-    Refused { number: u8, span: Span },
-    /// The data was refused with this number at this place.
-    DataRefused { number: u8, span: Span },
-    /// The machine was stuck.
-    Stuck(StuckKind),
-    /// The run hadn't ended within its budget.
-    StillRunning,
-    /// There was no memory.
-    Memory,
+// The text of a code.
+fn code_lines(alloc: Global, code: &Code) -> Result<Vec<u8>, SourceRefusal>
+    ensures text { IfOk result (λ text. CodeText code.now text.items) }
+    ensures memory { IfErr result (λ e. e ≡ SourceRefusal.Memory) }
+{
+    match print(alloc, code) {
+        Ok(text) => Ok(text),
+        Err(Memory) => Err(SourceRefusal::Memory),
+    }
 }
 
-// The answer that shows an array.
-fn array_answer(alloc: Global, array: &Array) -> Answer
-    ensures { Tells (shown array.now) result }
+/// The text of the code of the program that a source means (docs/MACHINE.md, "Code text"). It refuses what `check_source`
+/// refuses, and then with 90 a program that has inputs. It answers `Memory` where there is none.
+pub fn build(alloc: Global, source: &[u8]) -> Result<Vec<u8>, SourceRefusal>
+    ensures text { IfOk result (λ text. IsBuildDue source.now (written text.items)) }
+    ensures refused { IfErr result (λ e. RefusesBuild source.now e) }
 {
-    match array_line(alloc, array) {
-        Ok(text) => Answer::Text(text),
-        Err(Memory) => Answer::Memory,
+    match compile(alloc, source) {
+        Ok(code) => code_lines(alloc, &code),
+        Err(refusal) => Err(refusal),
+    }
+}
+
+/// What the code of the program that a source means comes to by at most `budget` steps of the machine, with these data
+/// (docs/LANGUAGE.md, "Calls"): the line of its value, a trap, or that it is still running. It refuses what `check_source`
+/// refuses, then with 90 a program that has inputs, and then data that holds a value, with 40, 41 or 44. It is never `Stuck`.
+/// It answers `Memory` where there is none.
+pub fn run_source(alloc: Global, source: &[u8], given: &[u8], budget: u64) -> Answer
+    ensures due { RunsSource source.now given.now budget result }
+    ensures unstuck { IsUnstuck result }
+{
+    match compile(alloc, source) {
+        Ok(code) => run_code(alloc, &code, given, budget),
+        Err(SourceRefusal::Refused { number, span }) => Answer::Refused { number, span },
+        Err(SourceRefusal::Memory) => Answer::Memory,
     }
 }
 
@@ -58,7 +72,7 @@ fn end_answer(alloc: Global, end: &Reduction) -> Answer
 // The answer of a checked program that is reduced today.
 fn reduction_answer(alloc: Global, checked: &Checked, budget: u64) -> Answer
     requires { IsReducible (program_of checked.now.program) }
-    ensures { TellsEnd checked.now budget result }
+    ensures { TellsDue (EndsIn checked.now budget) result }
 {
     match reduce_program(alloc, checked, budget) {
         Ok(end) => end_answer(alloc, &end),
@@ -66,7 +80,7 @@ fn reduction_answer(alloc: Global, checked: &Checked, budget: u64) -> Answer
     }
 }
 
-// The answer of a checked program with this data.
+// The answer of a checked program with these data.
 fn reduce_checked(alloc: Global, checked: &Checked, given: &[u8], budget: u64) -> Answer
     ensures { ReducesChecked checked.now given.now budget result }
 {
@@ -88,7 +102,8 @@ fn reduce_checked(alloc: Global, checked: &Checked, given: &[u8], budget: u64) -
 /// 90 a program that isn't reduced today, and then data that holds a value, with 40, 41 or 44. It is never `Stuck`. It answers
 /// `Memory` where there is none.
 pub fn reduce_source(alloc: Global, source: &[u8], given: &[u8], budget: u64) -> Answer
-    ensures { ReducesSource source.now given.now budget result }
+    ensures due { ReducesSource source.now given.now budget result }
+    ensures unstuck { IsUnstuck result }
 {
     match check_source(alloc, source) {
         Ok(checked) => reduce_checked(alloc, &checked, given, budget),

@@ -2,8 +2,7 @@
 ghost use Rattle.sexp_reader.specs.Forms.{forms_of};
 ghost use Rattle.remora_driver.specs.Reductions.{LooksForData, LooksForForms};
 
-use crate::answer::FRONT;
-use crate::errors::DataRefusal;
+use crate::errors::{DataRefusal, FRONT};
 use crate::job::LONGEST_SOURCE;
 use sexp_reader::{Sexp, SexpRefusal, read};
 use std::alloc::Global;

@@ -1,6 +1,19 @@
 use core_syntax::Span;
-use std::alloc::{AllocError, AllocFailed};
 use thiserror::Error;
+
+/// The start of a text.
+pub const FRONT: Span = Span {
+    from: 0,
+    to: 0,
+    line: 1,
+    col: 1,
+};
+
+/// The number of what is not built yet.
+pub const NOT_BUILT: u8 = 90;
+
+/// The number of a source that is too long.
+pub const TOO_LONG: u8 = 31;
 
 /// Why a program source has no checked program or no code.
 #[derive(Clone, Copy, Debug, PartialEq, Eq, Error)]
@@ -22,35 +35,4 @@ pub enum DataRefusal {
     /// There was no memory.
     #[error("no memory")]
     Memory,
-}
-
-/// Why a part of a program has no term: it doesn't run today, or there was no memory.
-#[derive(Clone, Copy, Debug, PartialEq, Eq, Error)]
-pub enum NoResult {
-    #[error("not built yet")]
-    Undefined,
-    #[error("no memory")]
-    Memory,
-}
-
-impl From<AllocError> for NoResult {
-    ghost use Rattle.std.specs.Prelude.{◌≡◌};
-    ghost use Rattle.remora_driver.specs.declared.errors.NoResult.TheVariants.{Memory};
-
-    ghost from_gives = { λ _ e. e ≡ Memory };
-
-    fn from(_: AllocError) -> Self {
-        NoResult::Memory
-    }
-}
-
-impl<T: Drop> From<AllocFailed<T>> for NoResult {
-    ghost use Rattle.std.specs.Prelude.{◌≡◌};
-    ghost use Rattle.remora_driver.specs.declared.errors.NoResult.TheVariants.{Memory};
-
-    ghost from_gives = { λ _ e. e ≡ Memory };
-
-    fn from(_: AllocFailed<T>) -> Self {
-        NoResult::Memory
-    }
 }

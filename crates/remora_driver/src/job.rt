@@ -26,7 +26,7 @@ pub enum Job {
 pub const LONGEST_SOURCE: usize = 1 << 20;
 
 /// The most bytes of a code text.
-const LONGEST_CODE: usize = 1 << 24;
+pub const LONGEST_CODE: usize = 1 << 24;
 
 impl Job {
     /// The most bytes that the job reads.

@@ -1,7 +1,20 @@
 // What the definitions come to, for whoever rests on them.
-ghost use Rattle.remora_driver.specs.Laws.{OneAnswer};
+ghost use Rattle.remora_driver.specs.Laws.{OneAnswer, DueMeans, RunIsReduce};
 
 /// For the same words and bytes no two answers are due.
 pub fn one_answer()
     ensures { OneAnswer }
+{}
+
+/// What is due for a source that is run is the value that typed reduction of its program reaches, the trap that it meets, or
+/// `still running`, and then each end of reduction is late; the numbers of steps of the code and of reduction bound each other
+/// as `code_does` of crate `compiled_laws` says. What is due for a source that is built is the text of a code that ends exactly
+/// as typed reduction of the program does, and is never stuck.
+pub fn due_means()
+    ensures { DueMeans }
+{}
+
+/// Where neither is still running, and the program is reduced today, `run` and `reduce` answer the same status and text.
+pub fn run_is_reduce()
+    ensures { RunIsReduce }
 {}

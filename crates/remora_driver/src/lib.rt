@@ -2,27 +2,28 @@
 #![tactic(auto)]
 
 mod answer;
-mod arrays;
 mod calls;
 mod commands;
 mod compiling;
 mod data;
 mod errors;
-mod expression;
-mod fragment;
+mod executing;
 mod job;
 mod laws;
-mod lowering;
 mod reducible;
 mod reducing;
+mod reply;
+mod running;
 mod source;
 mod status;
 mod texts;
 mod top;
 
-pub use calls::{Answer, reduce_source};
+pub use answer::Answer;
+pub use calls::{build, reduce_source, run_source};
 pub use errors::SourceRefusal;
-pub use laws::one_answer;
+pub use executing::exec;
+pub use laws::{due_means, one_answer, run_is_reduce};
 pub use source::check_source;
 pub use status::Status;
 pub use top::remora;

@@ -4,8 +4,7 @@ ghost use Rattle.sexp_reader.specs.Forms.{forms_of, forms_size, AreShort};
 ghost use Rattle.remora_driver.specs.Jobs.{longest_source};
 ghost use Rattle.remora_driver.specs.Sources.{Resolves, ResolvesSource, ChecksProgram, ChecksSource};
 
-use crate::answer::{FRONT, TOO_LONG};
-use crate::errors::SourceRefusal;
+use crate::errors::{FRONT, SourceRefusal, TOO_LONG};
 use crate::job::LONGEST_SOURCE;
 use core_syntax::{Checked, Program};
 use name_resolve::{NameRefusal, resolve};

@@ -1,7 +1,10 @@
 use Rattle.std.proofs.Common.{◌≡◌, refl, subst, true, false, Err}
 use Rattle.remora_driver.specs.Due.{not_reduced}
-use Rattle.remora_driver.specs.Reductions.{LooksForData}
-use Rattle.remora_driver.proofs.Reductions.{reducible, not_reducible, calls_back}
+use Rattle.remora_driver.specs.Reductions.{LooksForData, EndsIn, IsCheckedDue}
+use Rattle.core_syntax.specs.Wholes.{program_of}
+use Rattle.remora_driver.specs.Reducible.{IsReducible}
+use Rattle.remora_driver.proofs.Called.{called, called_back}
+use Rattle.remora_driver.proofs.Reductions.{reducible, not_reducible, reduced_due}
 use Rattle.remora_driver.proofs.calls.reduce_checked.Goals as goal
 
 pub reduction_answer-requires : goal.reduction_answer-requires
@@ -17,7 +20,9 @@ returns-then-not-is_reducible c =
 pub returns-in-Ok : goal.returns-in-Ok
 returns-in-Ok c =
     let e : c.is_reducible.result ≡ true = (let f = c.if-not-is_reducible.false in cc) in
-    calls_back c.args.checked.now c.args.given.now c.args.budget c.reduction_answer.result (reducible c.args.checked.now c.program.result.now c.is_reducible.result c.program.ensures c.is_reducible.ensures e) c.in-Ok.ensures c.reduction_answer.ensures
+    let is = reducible c.args.checked.now c.program.result.now c.is_reducible.result c.program.ensures c.is_reducible.ensures e in
+    called_back (EndsIn c.args.checked.now c.args.budget) (IsCheckedDue c.args.checked.now c.args.budget) (IsReducible (program_of c.args.checked.now.program)) (IsReducible (program_of c.args.checked.now.program)) c.args.given.now c.reduction_answer.result (λ a end. reduced_due c.args.checked.now c.args.budget a is end) (λ x. x)
+    (called (EndsIn c.args.checked.now c.args.budget) (IsReducible (program_of c.args.checked.now.program)) c.args.given.now c.reduction_answer.result c.in-Ok.ensures c.reduction_answer.ensures)
 
 pub returns-in-Err-Refused : goal.returns-in-Err-Refused
 returns-in-Err-Refused c =

@@ -1,5 +1,0 @@
-use Rattle.remora_driver.proofs.Dues.{answered}
-use Rattle.remora_driver.proofs.commands.outcome.Goals as goal
-
-pub returns : goal.returns
-returns c = answered c.run.result c.args.code.now c.in_ok-machine.machine.code c.args.budget c.in_ok-machine.machine.steps _ c.in_ok-machine.ensures.code c.in_ok-machine.ensures.steps c.run.ensures.answer

@@ -1,0 +1,35 @@
+-- The programs that a text means, and those that run today.
+use Rattle.std.specs.Prelude.{◌≡◌, ◌≤◌, ℕ, List, [], length}
+use Rattle.core_syntax.specs.Blame.{IsAccepted}
+use Rattle.core_syntax.specs.Literals.{LiteralsFit}
+use Rattle.core_syntax.specs.Notes.{NodeNote}
+use Rattle.core_syntax.specs.Syntax.{Ty, Program}
+use Rattle.core_syntax.specs.Typing.{Typed}
+use Rattle.sexp_reader.specs.Forms.{Forms}
+use Rattle.sexp_reader.specs.Reads.{Reads}
+use Rattle.name_resolve.specs.Means.{Means}
+use Rattle.reduction_laws.specs.Laws.{IsReady}
+use Rattle.remora_driver.specs.Jobs.{longest_source}
+
+-- the text means this program
+pub record IsSource (bytes : List ℕ) (P : Program) : Type 0 where
+  pub forms : Forms
+  pub reads : Reads bytes forms
+  pub means : Means forms P
+
+-- the text means this program, which is typed and whose measures hold
+pub record IsAcceptedSource (bytes : List ℕ) (P : Program) : Type 0 where
+  pub short : length bytes ≤ longest_source
+  pub means : IsSource bytes P
+  pub accepted : ∥ IsAccepted P ∥₁
+  -- the rules of typing type it
+  pub typed : ∥ Typed P ∥₁
+
+-- the text means this accepted program, which has no inputs and so runs today, and these are the notes of its nodes
+pub record IsProgram (bytes : List ℕ) (P : Program) (notes : List NodeNote) : Type 0 where
+  pub source : IsAcceptedSource bytes P
+  pub inputs : P.inputs ≡ []
+  -- its literals are those that a text can hold
+  pub literals : LiteralsFit P
+  -- it is well made and checked, and no data fits no inputs
+  pub ready : ∥ ((t : Ty) × IsReady P t notes []) ∥₁
