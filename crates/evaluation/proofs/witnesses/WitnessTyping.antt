@@ -1,4 +1,4 @@
--- Erased terms of closed typed terms have all that the first proof asks for.
+-- Erased terms of closed typed terms have all that is asked of the terms of a type.
 use Rattle.core_syntax.specs.Syntax.{Ty}
 use Rattle.core_syntax.specs.Lists.{each}
 use Rattle.std.specs.Prelude.{List, []}

@@ -1,4 +1,4 @@
--- The bound on the machine steps of a program, the third of the three proofs on the evaluation: bodies are smaller than their program.
+-- The bound on the machine steps of a program: bodies are smaller than their program.
 use Rattle.std.proofs.Common.{◌≡◌, refl, subst, ℕ, zero, suc, ◌+◌, ◌*◌, ◌-◌, ◌≤◌, arith, List, [], ◌∷◌, ◌++◌, length, Option, Some, None}
 use Rattle.std.specs.Prelude.{slice_get}
 use Rattle.core_syntax.specs.Lists.{Each}

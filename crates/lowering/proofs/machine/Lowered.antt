@@ -1,4 +1,4 @@
--- The code of an erased program runs as the evaluation says: the second of the three proofs on the evaluation.
+-- The code of an erased program runs as the evaluation says.
 use Rattle.std.proofs.Common.{◌≡◌, refl, sym, ap, subst, ◌∙◌, ℕ, zero, suc, ◌+◌, ◌≤◌, arith, List, [], ◌∷◌, length, Option, Some, None}
 use Rattle.std.specs.Prelude.{slice_get, option_map}
 use Rattle.core_syntax.specs.Lists.{each}
