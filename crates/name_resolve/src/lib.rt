@@ -21,4 +21,3 @@ mod words;
 pub use errors::NameRefusal;
 pub use laws::{one_meaning, refusal_numbers};
 pub use top::resolve;
-

@@ -7,4 +7,3 @@ mod types;
 
 pub use names::prim;
 pub use types::type_of;
-

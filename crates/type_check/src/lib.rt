@@ -36,4 +36,3 @@ pub use context::Context;
 pub use laws::{accepted_is_typed, refusals_of_programs};
 pub use refusal::TypeRefusal;
 pub use synthesis::synth;
-

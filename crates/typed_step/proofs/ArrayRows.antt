@@ -19,7 +19,7 @@ use Rattle.core_syntax.specs.RefineTerms.{cell_of, term_of, TypedCell}
 use Rattle.core_syntax.specs.Refine.{index_of}
 use Rattle.typed_step.specs.Answers.{array_of, seen_of}
 use Rattle.typed_step.specs.ArrayAnswers.{formed_dims, place_below}
-use Rattle.typed_step.proofs.Natural.{each-take, each-drop, each-joined, each-runs, each-columns}
+use Rattle.naturality.proofs.Eaches.{each_take, each_drop, each_joined, each_runs, each_columns}
 
 -- the number at a place of index arguments
 number_next : (v : IndexValue) (vs : List IndexValue) (k : ℕ) → number_at (v ∷ vs) (suc k) ≡ number_at vs k
@@ -77,8 +77,8 @@ module _ (r : Ty) where
       → Gives (array (m ∷ s) (each cell_of all)) ≡ reversed R (array ds (each cell_of atoms))
   reversed_is ds atoms all m s h e =
       rw (← h)
-      (ap (λ zs. Gives (array (m ∷ s) zs)) (ap (each cell_of) e ∙ sym (each-joined cell_of (onto (runs m (product s) atoms) []))
-      ∙ ap joined (sym (each_onto (each cell_of) (runs m (product s) atoms) []) ∙ ap (λ rs. onto rs []) (sym (each-runs cell_of m (product s) atoms)))))
+      (ap (λ zs. Gives (array (m ∷ s) zs)) (ap (each cell_of) e ∙ sym (each_joined cell_of (onto (runs m (product s) atoms) []))
+      ∙ ap joined (sym (each_onto (each cell_of) (runs m (product s) atoms) []) ∙ ap (λ rs. onto rs []) (sym (each_runs cell_of m (product s) atoms)))))
     where
       each_onto : {A B : Type 0} (f : A → B) (xs ys : List A) → onto (each f xs) (each f ys) ≡ each f (onto xs ys)
       each_onto f [] ys = refl
@@ -86,11 +86,11 @@ module _ (r : Ty) where
 
   pub taken_is : (ds : List ℕ) (atoms all : List TermAtom) (k m : ℕ) (s : List ℕ) → m ∷ s ≡ ds → all ≡ take (k * product s) atoms
       → Gives (array (k ∷ s) (each cell_of all)) ≡ taken R k (array ds (each cell_of atoms))
-  taken_is ds atoms all k m s h e = rw (← h) (ap (λ zs. Gives (array (k ∷ s) zs)) (ap (each cell_of) e ∙ sym (each-take cell_of (k * product s) atoms)))
+  taken_is ds atoms all k m s h e = rw (← h) (ap (λ zs. Gives (array (k ∷ s) zs)) (ap (each cell_of) e ∙ sym (each_take cell_of (k * product s) atoms)))
 
   pub dropped_is : (ds : List ℕ) (atoms all : List TermAtom) (k n m : ℕ) (s : List ℕ) → m ∷ s ≡ ds → all ≡ drop (k * product s) atoms
       → Gives (array (n ∷ s) (each cell_of all)) ≡ dropped R k n (array ds (each cell_of atoms))
-  dropped_is ds atoms all k n m s h e = rw (← h) (ap (λ zs. Gives (array (n ∷ s) zs)) (ap (each cell_of) e ∙ sym (each-drop cell_of (k * product s) atoms)))
+  dropped_is ds atoms all k n m s h e = rw (← h) (ap (λ zs. Gives (array (n ∷ s) zs)) (ap (each cell_of) e ∙ sym (each_drop cell_of (k * product s) atoms)))
 
   pub transposed_is : (ds : List ℕ) (atoms all : List TermAtom) (m n : ℕ) (s : List ℕ) → m ∷ n ∷ s ≡ ds
       → all ≡ joined (each joined (columns n (each (runs n (product s)) (runs m (n * product s) atoms))))
@@ -98,23 +98,23 @@ module _ (r : Ty) where
   transposed_is ds atoms all m n s h e =
       rw (← h)
       (ap (λ zs. Gives (array (n ∷ m ∷ s) zs))
-      (ap (each cell_of) e ∙ sym (each-joined cell_of (each joined (columns n rows))) ∙ ap joined (all_joined (columns n rows))
-      ∙ ap (λ cs. joined (each joined cs)) (sym (each-columns (each cell_of) n rows) ∙ ap (columns n) (sym (cut (runs m (n * product s) atoms)) ∙ ap (each (runs n (product s))) (sym (each-runs cell_of m (n * product s) atoms))))))
+      (ap (each cell_of) e ∙ sym (each_joined cell_of (each joined (columns n rows))) ∙ ap joined (all_joined (columns n rows))
+      ∙ ap (λ cs. joined (each joined cs)) (sym (each_columns (each cell_of) n rows) ∙ ap (columns n) (sym (cut (runs m (n * product s) atoms)) ∙ ap (each (runs n (product s))) (sym (each_runs cell_of m (n * product s) atoms))))))
     where
       rows : List (List (List TermAtom))
       rows = each (runs n (product s)) (runs m (n * product s) atoms)
 
       all_joined : (xsss : List (List (List TermAtom))) → each (each cell_of) (each joined xsss) ≡ each joined (each (each (each cell_of)) xsss)
       all_joined [] = refl
-      all_joined (xss ∷ xsss) = λ i. sym (each-joined cell_of xss) i ∷ all_joined xsss i
+      all_joined (xss ∷ xsss) = λ i. sym (each_joined cell_of xss) i ∷ all_joined xsss i
 
       cut : (xss : List (List TermAtom)) → each (runs n (product s)) (each (each cell_of) xss) ≡ each (each (each cell_of)) (each (runs n (product s)) xss)
       cut [] = refl
-      cut (xs ∷ xss) = λ i. each-runs cell_of n (product s) xs i ∷ cut xss i
+      cut (xs ∷ xss) = λ i. each_runs cell_of n (product s) xs i ∷ cut xss i
 
   pub copied_is : (ds : List ℕ) (atoms all : List TermAtom) (k : ℕ) → all ≡ joined (replicate k atoms)
       → gives_formed R (k ∷ ds) (each cell_of all) ≡ copied R k (array ds (each cell_of atoms))
-  copied_is ds atoms all k e = ap (gives_formed R (k ∷ ds)) (ap (each cell_of) e ∙ sym (each-joined cell_of (replicate k atoms)) ∙ ap joined (each_same k)) where
+  copied_is ds atoms all k e = ap (gives_formed R (k ∷ ds)) (ap (each cell_of) e ∙ sym (each_joined cell_of (replicate k atoms)) ∙ ap joined (each_same k)) where
     each_same : (k : ℕ) → each (each cell_of) (replicate k atoms) ≡ replicate k (each cell_of atoms)
     each_same zero = refl
     each_same (suc k) = ap (λ zs. each cell_of atoms ∷ zs) (each_same k)
@@ -192,7 +192,7 @@ module _ (r : Ty) where
       → found ≡ place_below z' m → found ≡ Some k → Gives (array s (each cell_of part)) ≡ cell_or R m s (each cell_of atoms) o z
   cell_taken m s atoms part o z z' k found e same hf hs =
       ap (λ xs. Gives (array s xs))
-      (ap (each cell_of) e ∙ sym (each-take cell_of (product s) (drop (k * product s) atoms)) ∙ ap (take (product s)) (sym (each-drop cell_of (k * product s) atoms)))
+      (ap (each cell_of) e ∙ sym (each_take cell_of (product s) (drop (k * product s) atoms)) ∙ ap (take (product s)) (sym (each_drop cell_of (k * product s) atoms)))
       ∙ cell_there m s (each cell_of atoms) o z k (ap (λ z. place_below z m) (sym same) ∙ sym hf ∙ hs)
 
   pub cell_other : (m : ℕ) (s : List ℕ) (atoms others : List TermAtom) (ds : List ℕ) (o : TermExpr) (z z' : ℤ) (found : Option ℕ) → ds ≡ dims_of typed_rules (term_of o) → each cell_of others ≡ atoms_of typed_rules (term_of o)

@@ -18,7 +18,7 @@ use Rattle.core_syntax.specs.Syntax as syntax
 use Rattle.core_syntax.specs.Terms.{TArray, TFrame, TApp, more_terms, more_cells, term_list, cell_list, scalar_of}
 use Rattle.core_syntax.specs.Typed.{typed_rules, TypedTerm}
 use Rattle.typed_step.specs.Frames.{one_at, cells_at, columns_at}
-use Rattle.typed_step.proofs.Natural.{each-append, each-take, each-drop}
+use Rattle.naturality.proofs.Eaches.{each_append, each_take, each_drop}
 
 pub terms_are : (ts : List TermExpr) → terms_of ts ≡ term_list (each term_of ts)
 terms_are [] = refl
@@ -61,7 +61,7 @@ cell_is t u place rank size most dims cell xs run copies other ds ce at few sz r
     let c : cell ≡ drop rank (dims_of typed_rules (term_of t)) = ce ∙ ap (drop rank) ds in
     let cut : copies ≡ take n (drop (place * n) xs) = cp ∙ rn ∙ ap (λ n. take n (drop (place * n) xs)) sz ∙ run_is xs place n most few in
     let seen : each cell_of copies ≡ take n (drop (place * n) (atoms_of typed_rules (term_of t))) =
-    ap (each cell_of) cut ∙ sym (ap (λ ys. take n (drop (place * n) ys)) (sym at) ∙ ap (take n) (each-drop cell_of (place * n) xs) ∙ each-take cell_of n (drop (place * n) xs)) in
+    ap (each cell_of) cut ∙ sym (ap (λ ys. take n (drop (place * n) ys)) (sym at) ∙ ap (take n) (each_drop cell_of (place * n) xs) ∙ each_take cell_of n (drop (place * n) xs)) in
     is ∙ ap (λ ys. TArray cell ys) (atoms_are copies ∙ ap cell_list seen)
     ∙ ap (λ c. TArray c (cell_list (take (product c) (drop (place * product c) (atoms_of typed_rules (term_of t)))))) c
     ∙ sym (part_is t (array (drop rank (dims_of typed_rules (term_of t))) (take (product (drop rank (dims_of typed_rules (term_of t)))) (drop (place * product (drop rank (dims_of typed_rules (term_of t)))) (atoms_of typed_rules (term_of t))))) other)
@@ -125,7 +125,7 @@ module _ (n : ℕ) (fs : List TermAtom) (gs : List TypedCell) (ks : List ℕ) (t
   mapped_more made next k place f u lt low is at e one before =
       let all = λ (gs : List TypedCell). apps typed_rules gs (columns_at 0 n ks (each term_of ts)) (each index_of cs) (ty_of a) in
       let here : place ≡ 0 + k = omega (arith, is) in
-      ap (each term_of) e ∙ each-append term_of made (u ∷ [])
+      ap (each term_of) e ∙ sym (each_append term_of made (u ∷ []))
       ∙ (λ i. before i ++ (one ∙ ap (λ m. TApp (scalar_of (cell_of f)) (term_list (cells_at m ks (each term_of ts))) (each index_of cs) (ty_of a)) here) i ∷ [])
       ∙ ap (λ gs. take k (all gs) ++ TApp (scalar_of (cell_of f)) (term_list (cells_at (0 + k) ks (each term_of ts))) (each index_of cs) (ty_of a) ∷ []) (sym seen)
       ∙ sym (apps_more ks (each term_of ts) (each index_of cs) (ty_of a) fs 0 n k f lt low at) ∙ ap (λ gs. take (k + 1) (all gs)) seen

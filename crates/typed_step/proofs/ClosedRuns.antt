@@ -9,8 +9,8 @@ use Rattle.core_syntax.specs.Typed.{typed_rules, TypedTerm}
 use Rattle.core_syntax.proofs.Unique.{some_is}
 use Rattle.typed_step.specs.Closing.{IsClosed}
 use Rattle.typed_step.specs.Runs.{moves}
-use Rattle.typed_step.proofs.Once.{goes_to}
-use Rattle.typed_step.proofs.TypedRuns.{never_lost, after_has}
+use Rattle.reduction_laws.proofs.runs.Once.{goes_to}
+use Rattle.reduction_laws.proofs.runs.TypedRuns.{never_lost, after_has}
 
 -- after moves is after steps
 pub moves_after : (defs : List TypedTerm) (n : ℕ) (t : TypedTerm) → moves (step typed_rules defs) n t ≡ after typed_rules defs n t

@@ -11,7 +11,7 @@ use Rattle.core_syntax.specs.Syntax.{Ty}
 use Rattle.core_syntax.specs.Terms.{TFrame}
 use Rattle.core_syntax.specs.Typed.{atom_type, typed_rules, TypedTerm}
 use Rattle.typed_step.specs.Outcomes.{fires}
-use Rattle.typed_step.proofs.Natural.{each-append}
+use Rattle.naturality.proofs.Eaches.{each_append}
 use Rattle.typed_step.proofs.TreeRules.{items_of}
 
 -- the atoms of values
@@ -27,7 +27,7 @@ module _ (cells : List TermExpr) (k : ℕ) where
   pub atoms_more : (t : TermExpr) (now next new : List TermAtom) → k < length cells → t ≡ slice_index_or cells k t → next ≡ now ++ new → each cell_of new ≡ atoms_in t
       → each cell_of now ≡ joined (each atoms_in (take k cells)) → each cell_of next ≡ joined (each atoms_in (take (k + 1) cells))
   atoms_more t now next new lt at e one before =
-      ap (each cell_of) e ∙ each-append cell_of now new
+      ap (each cell_of) e ∙ sym (each_append cell_of now new)
       ∙ (λ i. before i ++ (one ∙ ap atoms_in at) i)
       ∙ sym (ap (λ l. joined (each atoms_in l)) (take_more cells k t lt) ∙ joined_push atoms_in (take k cells) (slice_index_or cells k t))
 

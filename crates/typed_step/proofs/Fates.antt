@@ -13,8 +13,8 @@ use Rattle.core_syntax.specs.Subst.{Fate, Keep, Put, Fates, kept, put_first, put
 use Rattle.core_syntax.specs.TermPut.{terms_under}
 use Rattle.core_syntax.specs.Typed.{typed_rules}
 use Rattle.typed_step.specs.Putting.{up, moved_from, indices_at, types_at, puts_at, terms_at}
-use Rattle.typed_step.proofs.PutIndex.{index_renamed_twice, index_renamed_same}
-use Rattle.typed_step.proofs.PutTypes.{ty_renamed_twice, ty_renamed_same}
+use Rattle.reduction_laws.proofs.putting.Indices.{index_renamed_twice, index_renamed_same}
+use Rattle.reduction_laws.proofs.putting.Types.{ty_renamed_twice, ty_renamed_same}
 
 -- ---- moved variables
 

@@ -18,9 +18,9 @@ use Rattle.core_syntax.specs.Value.{shape_val}
 use Rattle.typed_step.specs.Frames.{backs}
 use Rattle.typed_step.specs.Indices.{small}
 use Rattle.typed_step.proofs.Products.{all_below_is}
-use Rattle.typed_step.proofs.Frames.{equal_test, onto_onto, onto-append, onto_split, frame_before_cell}
+use Rattle.reduction_laws.proofs.steps.Frames.{equal_test, onto_onto, onto-append, onto_split, frame_before_cell}
 use Rattle.typed_step.proofs.FrontLists.{fronts_of}
-use Rattle.typed_step.proofs.Natural.{each-append}
+use Rattle.naturality.proofs.Eaches.{each_append}
 
 abbrev or_these : List ℕ → Option (List ℕ) → List ℕ
 or_these xs None = xs
@@ -124,7 +124,7 @@ ranked_more ks next cs ts k r c t same lt here at e front back p =
           ∙ and_more (fronts_of ks ts) (take r (D t)) (later cs ts (k + 1))
           ∙ ap (λ l. option_map (λ fs. l ++ fs) (later cs ts (k + 1))) (sym (ap (λ l. fronts_of l ts) e ∙ fronts_push ks ts k r t p.0 lt at)),
       ap (λ l. backs_of l ts) e ∙ backs_push ks ts k r t p.0 lt at ∙ (λ i. p.2 i ++ (back ∙ ap S here) i ∷ [])
-          ∙ sym (ap (each (λ c. shape_val closed (index_of c))) (take_more cs k c low) ∙ each-append (λ c. shape_val closed (index_of c)) (take k cs) (slice_index_or cs k c ∷ [])),
+          ∙ sym (ap (each (λ c. shape_val closed (index_of c))) (take_more cs k c low) ∙ sym (each_append (λ c. shape_val closed (index_of c)) (take k cs) (slice_index_or cs k c ∷ []))),
     )
 
 pub ranked_none : (ks : List ℕ) (cs : List Index) (ts : List TermExpr) (k : ℕ) (c : Index) (t : TermExpr) → length cs ≡ length ts → k < length ts → c ≡ slice_index_or cs k c → t ≡ slice_index_or ts k t

@@ -19,9 +19,9 @@ use Rattle.core_syntax.specs.Syntax.{Index, Ty as SyntaxTy}
 use Rattle.core_syntax.specs.Terms.{TArray, TNoAtoms, TApp, more_terms, term_list, more_cells, cell_list}
 use Rattle.core_syntax.specs.Typed.{typed_rules, TypedTerm}
 use Rattle.typed_step.proofs.ArrayCuts.{joined_append}
-use Rattle.typed_step.proofs.Frames.{prefix_rest}
+use Rattle.reduction_laws.proofs.steps.Frames.{prefix_rest}
 use Rattle.typed_step.proofs.Products.{product_joined}
-use Rattle.typed_step.proofs.Natural.{each-append, each-take, each-drop}
+use Rattle.naturality.proofs.Eaches.{each_append, each_take, each_drop}
 
 -- ---- frames that are one
 
@@ -55,7 +55,7 @@ cut_drop n m xs e = ap (λ k. drop k xs) e ∙ drop_min n xs
 
 each-copies : {A B : Type 0} (f : A → B) (k : ℕ) (xs : List A) → each f (joined (replicate k xs)) ≡ joined (replicate k (each f xs))
 each-copies f zero xs = refl
-each-copies f (suc k) xs = each-append f xs (joined (replicate k xs)) ∙ ap (λ ys. each f xs ++ ys) (each-copies f k xs)
+each-copies f (suc k) xs = sym (each_append f xs (joined (replicate k xs))) ∙ ap (λ ys. each f xs ++ ys) (each-copies f k xs)
 
 -- one more run is pushed
 pub replicating_more : {A B : Type 0} (f : A → B) (n times size m k : ℕ) (atoms now next rest run behind : List A) → k < n → m ≡ min size (length rest) → run ≡ take m rest → behind ≡ drop m rest
@@ -65,9 +65,9 @@ replicating_more f n times size m k atoms now next rest run behind lt cut r b e 
     let left = n - (k + 1) in
     let count : n - k ≡ suc left = omega (arith, lt) in
     let later = λ (zs : List _). joined (repeated times (runs left size zs)) in
-    let same = each-take f size rest ∙ ap (each f) (sym (r ∙ cut_take size m rest cut)) in
-    let back = each-drop f size rest ∙ ap (each f) (sym (b ∙ cut_drop size m rest cut)) in
-    let front = ap (λ l. each f now ++ joined (replicate times l)) same ∙ sym (ap (each f) e ∙ each-append f now (joined (replicate times run)) ∙ ap (λ l. each f now ++ l) (each-copies f times run)) in
+    let same = each_take f size rest ∙ ap (each f) (sym (r ∙ cut_take size m rest cut)) in
+    let back = each_drop f size rest ∙ ap (each f) (sym (b ∙ cut_drop size m rest cut)) in
+    let front = ap (λ l. each f now ++ joined (replicate times l)) same ∙ sym (ap (each f) e ∙ sym (each_append f now (joined (replicate times run))) ∙ ap (λ l. each f now ++ l) (each-copies f times run)) in
     p ∙ ap (λ j. each f now ++ joined (repeated times (runs j size ys))) count
     ∙ ap (λ l. each f now ++ l) (joined_append (replicate times (take size ys)) (repeated times (runs left size (drop size ys))))
     ∙ sym (append_assoc (each f now) (joined (replicate times (take size ys))) (later (drop size ys)))

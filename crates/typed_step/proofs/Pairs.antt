@@ -7,7 +7,7 @@ use Rattle.core_syntax.specs.RefineTerms.{term_of}
 use Rattle.core_syntax.specs.Rules.{dims_of, lifted, all_lifted}
 use Rattle.core_syntax.specs.Typed.{typed_rules, TypedTerm}
 use Rattle.typed_step.specs.Frames.{fronts, backs, one_at, cells_at}
-use Rattle.typed_step.proofs.Natural.{each-append}
+use Rattle.naturality.proofs.Eaches.{each_append}
 
 abbrev pub pairs : (ℕ → TermExpr → TypedTerm) → List ℕ → List TermExpr → List TypedTerm
 pairs h (k ∷ ks) (t ∷ ts) = h k t ∷ pairs h ks ts
@@ -32,7 +32,7 @@ module _ (h : ℕ → TermExpr → TypedTerm) where
   pub pairs_made : (ks : List ℕ) (ts made next : List TermExpr) (k : ℕ) (t x : TermExpr) → length ks ≡ length ts → k < length ts → t ≡ slice_index_or ts k t → next ≡ made ++ x ∷ []
       → term_of x ≡ h (get_or ks k 0) t → each term_of made ≡ take k (pairs h ks ts) → each term_of next ≡ take (k + 1) (pairs h ks ts)
   pairs_made ks ts made next k t x same lt at e one before =
-      ap (each term_of) e ∙ each-append term_of made (x ∷ []) ∙ (λ i. before i ++ one i ∷ []) ∙ sym (pairs_more ks ts k t same lt at)
+      ap (each term_of) e ∙ sym (each_append term_of made (x ∷ [])) ∙ (λ i. before i ++ one i ∷ []) ∙ sym (pairs_more ks ts k t same lt at)
 
   pub pairs_end : (ks : List ℕ) (ts : List TermExpr) (k : ℕ) → length ks ≡ length ts → length ts ≤ k → take k (pairs h ks ts) ≡ pairs h ks ts
   pairs_end ks ts k same le = let long = pairs_length ks ts same in take_all k (pairs h ks ts) (omega (arith, long, le))

@@ -24,32 +24,7 @@ use Rattle.core_syntax.specs.Syntax as syntax
 use Rattle.core_syntax.specs.Terms.{TVar, TDef, TArray, TNoAtoms, TFrame, TNoCells, TApp, TTypeApp, TIndexApp, TUnbox, Terms, no_terms, more_terms, TFn, TTypeFn, TIndexFn, TBoxed, Cells, no_cells, more_cells}
 use Rattle.core_syntax.specs.Typed.{typed, TypedTerm}
 use Rattle.core_syntax.proofs.ExprRows.{form_of_array, form_of_frame, form_of_app, form_of_type_app, form_of_index_app, form_of_unbox, form_of_fn, form_of_type_fn, form_of_index_fn, form_of_boxed}
-use Rattle.typed_step.specs.Readings.{notes_from}
 use Rattle.typed_step.proofs.Made.{terms_then, then_terms, cells_then, then_cells}
-
--- ---- places in the notes
-
--- the notes at a place, and those behind it
-pub note_there : (ns : List Note) (k : ℕ) (n : Note) → k < length ns → n ≡ get_or ns k n → note_of n ≡ first_note (notes_from k ns)
-note_there [] k n lt e = absurd (omega arith)
-note_there (m ∷ ns) zero n lt e = ap note_of e
-note_there (m ∷ ns) (suc k) n lt e = note_there ns k n (omega arith) e
-
-no_more : (k : ℕ) → ◌≡◌ {A = List NodeNote} (drop k []) []
-no_more zero = refl
-no_more (suc k) = refl
-
-pub notes_behind : (ns : List NodeNote) (k : ℕ) → drop (k + 1) ns ≡ later_notes (drop k ns)
-notes_behind [] zero = refl
-notes_behind [] (suc k) = no_more (suc k + 1)
-notes_behind (n ∷ ns) zero = refl
-notes_behind (n ∷ ns) (suc k) = let e : suc k + 1 ≡ suc (k + 1) = omega arith in ap (λ (j : ℕ). drop j (n ∷ ns)) e ∙ notes_behind ns k
-
-pub no_notes : (ns : List Note) (k : ℕ) → length ns ≤ k → notes_from k ns ≡ []
-no_notes [] zero le = refl
-no_notes [] (suc k) le = refl
-no_notes (n ∷ ns) zero le = absurd (omega arith)
-no_notes (n ∷ ns) (suc k) le = no_notes ns k (omega arith)
 
 -- ---- expressions
 

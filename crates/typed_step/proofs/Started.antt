@@ -23,9 +23,10 @@ use Rattle.core_syntax.specs.TermPut.{term_put}
 use Rattle.core_syntax.specs.Typed.{typed_rules, TypedTerm}
 use Rattle.core_syntax.specs.Wholes.{program_of}
 use Rattle.typed_step.specs.Closing.{IsClosed}
-use Rattle.typed_step.specs.Laws.{IsReady, def_types}
-use Rattle.typed_step.specs.Readings.{StartsAt, notes_from}
-use Rattle.typed_step.proofs.Results.{defs_ready, starts_typed}
+use Rattle.reduction_laws.specs.Laws.{IsReady, def_types}
+use Rattle.typed_step.specs.Starting.{StartsAt}
+use Rattle.reduction_laws.specs.Readings.{notes_from}
+use Rattle.reduction_laws.proofs.runs.Results.{defs_ready, starts_typed}
 
 -- data that fits types is as long as they are
 pub counted : (ts : List TyTree) (xs : List Array) → FitsValues (each ty_of ts) (each array_data xs) → length ts ≡ length xs

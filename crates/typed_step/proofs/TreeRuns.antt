@@ -22,7 +22,7 @@ use Rattle.typed_step.specs.declared.outcome.End.TheVariants as end
 use Rattle.typed_step.specs.Frames.{FirstHasRoom}
 use Rattle.typed_step.specs.Outcomes.{fires, trapped}
 use Rattle.typed_step.specs.Runs.{moves, EndsHere, TermRun, TermsRun, frame_step, FrameRun, CellRun, CellsRun, BoxRun, PartsRun, ApplicationRun}
-use Rattle.typed_step.proofs.Once.{goes_to}
+use Rattle.reduction_laws.proofs.runs.Once.{goes_to}
 use Rattle.typed_step.proofs.Ways.{stops, trapped_here, here, so_far_here, so_far_inside, to_value, run_inside, next_inside, then_run, parts_rest}
 use Rattle.typed_step.proofs.PartWays.{array_run, frame_run, type_app_run, index_app_run, unbox_run}
 

@@ -9,7 +9,7 @@ use Rattle.typed_step.specs.declared.outcome.End.{End}
 use Rattle.typed_step.specs.declared.outcome.End.TheVariants as end
 use Rattle.typed_step.specs.Outcomes.{fires, trapped}
 use Rattle.typed_step.specs.Runs.{moves, EndsHere, RunOf, EndsAround, PartsRun, Fired}
-use Rattle.typed_step.proofs.Once.{goes_to}
+use Rattle.reduction_laws.proofs.runs.Once.{goes_to}
 
 -- moves so far, of which a budget leaves so much
 abbrev pub SoFar : {A : Type 0} → (A → Move A) → ℕ → A → ℕ → A → Type 0

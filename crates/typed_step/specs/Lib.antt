@@ -1,11 +1,10 @@
-pub mod Laws
 pub mod Answers
 pub mod ArrayAnswers
 pub mod Outcomes
 pub mod Runs
 pub mod Frames
 pub mod Indices
-pub mod Readings
+pub mod Starting
 pub mod Closing
 pub mod Steps
 pub mod Putting

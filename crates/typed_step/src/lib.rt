@@ -7,9 +7,7 @@ mod closed;
 mod delta;
 mod indices;
 mod inputs;
-mod laws;
 mod lifting;
-mod literals;
 mod moving;
 mod noted;
 mod outcome;
@@ -25,8 +23,6 @@ mod valued;
 mod values;
 
 pub use closed::{Closed, Next};
-pub use laws::{keeps_type, one_outcome};
-pub use literals::read_literals;
 pub use starting::start;
 pub use stepping::{reduce, step};
 pub use valued::value;

@@ -8,7 +8,7 @@ ghost use Rattle.core_syntax.specs.Prims.{int_ty, scalar};
 ghost use Rattle.core_syntax.specs.Refine.{index_of, ty_of};
 ghost use Rattle.core_syntax.specs.RefineTerms.{term_of, terms_of, cell_of};
 ghost use Rattle.core_syntax.specs.Terms.{TNoAtoms, TFrame, TNoCells, TApp, TTypeApp, TIndexApp, TUnbox, TFn, TBoxed};
-ghost use Rattle.typed_step.specs.Readings.{note_read};
+ghost use Rattle.reduction_laws.specs.Readings.{note_read};
 
 use crate::moving::copied_sorts;
 use crate::terms;

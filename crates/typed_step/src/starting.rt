@@ -11,7 +11,8 @@ ghost use Rattle.core_syntax.specs.Refine.{expr_of, exprs_of, atom_of, atoms_of,
 ghost use Rattle.core_syntax.specs.RefineTerms.{term_of, terms_of, cell_of, cells_of};
 ghost use Rattle.core_syntax.specs.Start.{def_terms, start_term};
 ghost use Rattle.core_syntax.specs.Wholes.{program_of};
-ghost use Rattle.typed_step.specs.Readings.{StartsAt, note_read, notes_from};
+ghost use Rattle.typed_step.specs.Starting.{StartsAt};
+ghost use Rattle.reduction_laws.specs.Readings.{note_read, notes_from};
 ghost use Rattle.typed_step.specs.Steps.{IsTerm};
 
 use crate::closed::{Closed, DEEPEST};

@@ -3,7 +3,7 @@ use Rattle.std.proofs.lemmas.Result.{IfOk-weaker}
 use Rattle.std.specs.Option.{option_copied}
 use Rattle.core_syntax.specs.Annotate.{annotated_atom}
 use Rattle.core_syntax.specs.Refine.{atom_form_of}
-use Rattle.typed_step.specs.Readings.{note_read, notes_from}
+use Rattle.reduction_laws.specs.Readings.{note_read, notes_from}
 use Rattle.typed_step.proofs.ReadRows.{reads, read_var, read_def, read_array, read_no_atoms, read_frame, read_no_cells, read_app, read_type_app, read_index_app, read_unbox, read_fn, read_type_fn, read_index_fn, read_boxed, terms_read, atoms_read}
 use Rattle.typed_step.proofs.starting.+annotated.Goals as goal
 

@@ -2,7 +2,7 @@ use Rattle.std.proofs.Common.{◌≡◌, take}
 use Rattle.core_syntax.specs.Annotate.{annotated_all, annotated_atoms}
 use Rattle.core_syntax.specs.Refine.{exprs_of, atoms_of}
 use Rattle.core_syntax.specs.RefineTerms.{terms_of, cells_of}
-use Rattle.typed_step.specs.Readings.{notes_from}
+use Rattle.reduction_laws.specs.Readings.{notes_from}
 use Rattle.typed_step.proofs.starting.+annotated.Given as goal
 
 abbrev pub invariant-annotated_all-loop-expr : goal.invariant-annotated_all-loop-expr

@@ -3,7 +3,7 @@ use Rattle.core_syntax.specs.Annotate.{annotated_defs}
 use Rattle.core_syntax.specs.Lists.{each}
 use Rattle.core_syntax.specs.Programs.{def_of}
 use Rattle.core_syntax.specs.RefineTerms.{term_of}
-use Rattle.typed_step.specs.Readings.{notes_from}
+use Rattle.reduction_laws.specs.Readings.{notes_from}
 use Rattle.typed_step.proofs.starting.annotated_defs.Given as goal
 
 abbrev pub invariant-loop-def : goal.invariant-loop-def

@@ -1,7 +1,7 @@
 use Rattle.std.proofs.Common.{arith}
 use Rattle.core_syntax.specs.Lists.{each}
 use Rattle.core_syntax.specs.Notes.{note_of}
-use Rattle.typed_step.proofs.ReadRows.{note_there, notes_behind}
+use Rattle.reduction_laws.proofs.programs.NotesRead.{note_there, notes_behind}
 use Rattle.typed_step.proofs.starting.next_note.Goals as goal
 
 pub returns-clause-note : goal.returns-clause-note

@@ -7,8 +7,8 @@ use Rattle.core_syntax.specs.Notes.{note_of}
 use Rattle.core_syntax.specs.Refine.{ty_of}
 use Rattle.core_syntax.specs.RefineTerms.{term_of}
 use Rattle.core_syntax.specs.Wholes.{program_of}
-use Rattle.typed_step.specs.Readings.{notes_from}
-use Rattle.typed_step.proofs.SameTypes.{same_types}
+use Rattle.reduction_laws.specs.Readings.{notes_from}
+use Rattle.reduction_laws.proofs.programs.SameTypes.{same_types}
 use Rattle.typed_step.proofs.Started.{counted, of_tree, starts_defs, starts_term, starts_closed}
 use Rattle.typed_step.proofs.starting.start.Goals as goal
 

@@ -7,7 +7,7 @@ use Rattle.core_syntax.specs.RefineTerms.{term_of}
 use Rattle.core_syntax.specs.Subst.{put_all}
 use Rattle.core_syntax.specs.TermPut.{term_put}
 use Rattle.core_syntax.specs.Typed.{typed_rules}
-use Rattle.typed_step.specs.Readings.{notes_from}
+use Rattle.reduction_laws.specs.Readings.{notes_from}
 use Rattle.typed_step.proofs.starting.started.Goals as goal
 
 pub returns-in-Ok : goal.returns-in-Ok

@@ -1,0 +1,5 @@
+pub mod Bounds
+pub mod FitForms
+pub mod MeasuredTerms
+pub mod Measures
+pub mod Refusals

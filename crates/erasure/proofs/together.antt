@@ -1,0 +1,13 @@
+pub mod Acts
+pub mod Answers
+pub mod Applied
+pub mod Arrays
+pub mod Bodies
+pub mod Closed
+pub mod NormPuts
+pub mod Puts
+pub mod Rules
+pub mod Runs
+pub mod Scalars
+pub mod Starts
+pub mod Steps

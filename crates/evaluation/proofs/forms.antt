@@ -1,0 +1,17 @@
+pub mod Comes
+pub mod Leaves
+pub mod TermRuns
+pub mod MapRuns
+pub mod FoldRuns
+pub mod OverRuns
+pub mod BindRuns
+pub mod IndexRuns
+pub mod UnboxRuns
+pub mod DeltaFits
+pub mod DeltaFitRows
+pub mod PrimRuns
+pub mod FoldEntries
+pub mod AppLists
+pub mod Spread
+pub mod AppRuns
+pub mod AppFrames

@@ -1,0 +1,5 @@
+pub mod Follows
+pub mod Simulates
+pub mod Machines
+pub mod Lowered
+pub mod Continued

@@ -1,0 +1,13 @@
+pub mod Writable
+pub mod CodeIndices
+pub mod Sizes
+pub mod Written
+pub mod Blocks
+pub mod Dims
+pub mod Checked
+pub mod NoteWords
+pub mod Noted
+pub mod NotedForms
+pub mod CheckedBlocks
+pub mod InputParams
+pub mod OneProof

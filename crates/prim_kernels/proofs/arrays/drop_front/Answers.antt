@@ -1,0 +1,9 @@
+use Rattle.std.proofs.Common.{◌∙◌, ◌*◌, ap, min}
+use Rattle.prim_kernels.proofs.ArrayRows.{dropped_end}
+use Rattle.prim_kernels.proofs.arrays.drop_front.Goals as goal
+
+pub returns-in_ok-atoms-in-len1-up : goal.returns-in_ok-atoms-in-len1-up
+returns-in_ok-atoms-in-len1-up c =
+    dropped_end c.args.a.now c.dims.result.now c.in_ok-dims-in-len1-up.dims.items c.width.result c.extent.result c.args.count c.args.left c.in_ok-atoms-in-len1-up.atoms.items c.dims.ensures.array
+    c.dims.ensures.dims c.in-len1-up.len_at_least c.width.ensures (c.extent.ensures ∙ ap (λ n. min (c.args.count * c.width.result) n) c.len.ensures.len) c.in_ok-dims-in-len1-up.ensures
+    c.in_ok-atoms-in-len1-up.ensures

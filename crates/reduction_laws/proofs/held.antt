@@ -1,0 +1,11 @@
+pub mod Answers
+pub mod Apply
+pub mod Delta
+pub mod Forms
+pub mod Lifts
+pub mod Moves
+pub mod Prims
+pub mod Puts
+pub mod Runs
+pub mod Start
+pub mod Steps

@@ -1,0 +1,9 @@
+pub mod Accepted
+pub mod Alikes
+pub mod Annotated
+pub mod Checked
+pub mod LiteralRows
+pub mod NormFormed
+pub mod NotesRead
+pub mod Printed
+pub mod SameTypes

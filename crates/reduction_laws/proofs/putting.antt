@@ -1,0 +1,10 @@
+pub mod Binders
+pub mod ClosedValues
+pub mod Formed
+pub mod Indices
+pub mod Placed
+pub mod Rules
+pub mod TermPuts
+pub mod TermSubst
+pub mod Types
+pub mod Wider

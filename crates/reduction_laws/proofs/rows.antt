@@ -1,0 +1,4 @@
+pub mod CheckedRows
+pub mod RuleRows
+pub mod StepRows
+pub mod TypedRows

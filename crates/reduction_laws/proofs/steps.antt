@@ -1,0 +1,10 @@
+pub mod Acts
+pub mod Applied
+pub mod Bodies
+pub mod Counts
+pub mod Frames
+pub mod Lifted
+pub mod Moves
+pub mod Parts
+pub mod Scalars
+pub mod Steps

@@ -1,5 +1,0 @@
-use Rattle.typed_step.proofs.LiteralRows.{dims_fit}
-use Rattle.typed_step.proofs.literals.read_dims.Goals as goal
-
-pub returns : goal.returns
-returns c = dims_fit c.args.dims.now c.type_inv.dims

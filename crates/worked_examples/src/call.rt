@@ -1,0 +1,83 @@
+// Calls of the program over memory.
+use rem_base::{MemSink, SureSource};
+use remora_driver::{Status, remora};
+use std::alloc::Global;
+use std::process::Abort;
+use std::test::Fail;
+
+/// What a call answers.
+#[derive(Drop)]
+pub struct Called {
+    pub status: Status,
+    pub text: MemSink,
+}
+
+/// Calls the program with these words, which blanks separate.
+pub fn call(alloc: Global, words: &str, source: &[u8]) -> Result<Called, Fail> {
+    let mut given = Vec::new(alloc);
+    for word in words.split_whitespace() {
+        given.push(String::from_str(alloc, word)?)?;
+    }
+    let mut program = SureSource::new(source.to_vec(alloc)?);
+    let mut input = SureSource::new(Vec::new(alloc));
+    let mut text = MemSink::new(alloc, 1024, 1024, Vec::new(alloc))?;
+    let status = remora(alloc, given.as_slice(), &mut program, &mut input, &mut text);
+    Ok(Called { status, text })
+}
+
+/// The exit status of a call that prints this line, or none (docs/LANGUAGE.md, "Calls").
+fn status_of(line: &str) -> u8 {
+    match line.split_whitespace().next() {
+        None => 7,
+        Some("trap") => 1,
+        Some("refused") => 2,
+        Some("usage:") => 3,
+        Some("still") => 6,
+        Some("stuck") => 9,
+        Some(_) => 0,
+    }
+}
+
+/// Calls the program, which has to print this line, or nothing where it is empty, and to end with the status that belongs to it.
+pub fn prints(
+    rt: &impl Abort,
+    alloc: Global,
+    words: &str,
+    source: &[u8],
+    line: &str,
+) -> Result<(), Fail> {
+    let called = call(alloc, words, source)?;
+    let end = if line.is_empty() { "" } else { "\n" };
+    let due = format!(in alloc; "{line}{end}")?;
+    let printed = str::from_utf8(called.text.written()).unwrap_or("no text");
+    assert_eq!(rt; printed, due.as_str(), "{words}");
+    assert_eq!(rt; called.status.code(), status_of(line), "{words}");
+    Ok(())
+}
+
+/// The line of what isn't built yet.
+const NOT_BUILT: &str = "refused 90 1:1";
+
+/// Calls a command that comes to this line in so many steps and no fewer, `-` where it isn't built yet.
+pub fn ends(
+    rt: &impl Abort,
+    alloc: Global,
+    command: &str,
+    source: &[u8],
+    steps: &str,
+    line: &str,
+) -> Result<(), Fail> {
+    let words = format!(in alloc; "{command} f")?;
+    let Ok(least) = steps.parse::<u64>() else {
+        assert_eq!(rt; steps, "-");
+        return prints(rt, alloc, words.as_str(), source, NOT_BUILT);
+    };
+    prints(rt, alloc, words.as_str(), source, line)?;
+    let enough = format!(in alloc; "{command} f --steps {least}")?;
+    prints(rt, alloc, enough.as_str(), source, line)?;
+    if least > 1 {
+        let fewer = format!(in alloc; "{command} f --steps {}", least - 1)?;
+        prints(rt, alloc, fewer.as_str(), source, "still running")?;
+    }
+    Ok(())
+}

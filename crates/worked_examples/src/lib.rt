@@ -1,0 +1,23 @@
+//! Worked examples: answers that come from outside of the crates below, and what none of their contracts says.
+#![tactic(auto)]
+
+#[cfg(test)]
+mod boxes;
+#[cfg(test)]
+mod call;
+#[cfg(test)]
+mod codes;
+#[cfg(test)]
+mod examples;
+#[cfg(test)]
+mod faults;
+#[cfg(test)]
+mod large;
+#[cfg(test)]
+mod parts;
+#[cfg(test)]
+mod refusals;
+#[cfg(test)]
+mod row;
+#[cfg(test)]
+mod words;
