@@ -155,7 +155,7 @@ one_build bytes a b (build_refused m p why e) (builds P ns is ok text) = absurd 
 one_build bytes a b (builds P ns is ok text) (build_refused m p why e) = absurd (code_or_not bytes m p P ns why is)
 one_build bytes a b (builds P ns is ok text) (builds Q ms is' ok' text') =
     let one : a.text ≡ b.text =
-      ∥∥₁_elim (codes_agree bytes P Q ns ms is is') (Coded-set (coded_list coded_ℕ) a.text b.text) (λ e. text.text ∙ ap code_text e ∙ sym text'.text) in
+    ∥∥₁_elim (codes_agree bytes P Q ns ms is is') (Coded-set (coded_list coded_ℕ) a.text b.text) (λ e. text.text ∙ ap code_text e ∙ sym text'.text) in
     answer_same a b (ok ∙ sym ok') one
 
 -- ---- reductions

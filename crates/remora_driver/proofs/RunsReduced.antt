@@ -21,7 +21,7 @@ module _ (P : Program) (ns ms : List NodeNote) (same : ∥ ns ≡ ms ∥₁) (do
   ended_alike : IsCodeDue (code_of_program P ns) steps a → HasEnd P ms reductions b → a ≡ b
   ended_alike (ends n (Done x) le end p) (reaches l w y le' s is' q) =
       let text : array_text x ≡ array_text y =
-        ∥∥₁_elim does (Coded-set (coded_list coded_ℕ) (array_text x) (array_text y)) (λ d. let r = d.done n x end in values_agree P ns ms same r.0 l r.1 w x y r.2 s r.3 is') in
+      ∥∥₁_elim does (Coded-set (coded_list coded_ℕ) (array_text x) (array_text y)) (λ d. let r = d.done n x end in values_agree P ns ms same r.0 l r.1 w x y r.2 s r.3 is') in
       p ∙ ap (λ (t : List ℕ). written (line t)) text ∙ sym q
   ended_alike (ends n (Done x) le end p) (traps l kind le' s q) =
       absurd (not_so does (λ d. let r = d.done n x end in value_or_trap P ns ms same r.0 l r.1 kind r.2 s))
