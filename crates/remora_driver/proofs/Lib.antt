@@ -11,3 +11,4 @@ pub mod Plain
 pub mod Reductions
 pub mod RunsReduced
 pub mod Sourced
+pub mod Statuses

@@ -1,6 +1,6 @@
 -- What is due for a program that runs today is what typed reduction of the program means.
-use Rattle.std.proofs.Common.{◌≡◌, ap, subst, ℕ, List, []}
-use Rattle.std.proofs.Math.Logic.{∥∥₁_elim, ∥∥₁_map}
+use Rattle.std.proofs.Common.{subst, ℕ, List, []}
+use Rattle.std.proofs.Math.Logic.{∥∥₁_map}
 use Rattle.core_syntax.specs.declared.errors.StuckKind.{StuckKind}
 use Rattle.core_syntax.specs.Literals.{LiteralsFit}
 use Rattle.core_syntax.specs.Notes.{NodeNote}
@@ -21,6 +21,8 @@ use Rattle.remora_driver.specs.Laws.{DueMeans}
 use Rattle.remora_driver.specs.Meant.{ShowsReduction, value, trap, unfinished, RunMeans, not_run, shows, BuildMeans, not_built, gives, JobMeans, Means}
 use Rattle.remora_driver.specs.Programs.{IsProgram}
 use Rattle.remora_driver.proofs.OneDue.{one_job}
+use Rattle.remora_driver.proofs.OneEnd.{not_so}
+use Rattle.remora_driver.proofs.Statuses.{stuck_or_shown, stuck_or_trapped, stuck_or_refused, stuck_or_running}
 
 -- the code of a program that runs today does as the source
 pub does_as_source : (bytes : List ℕ) (P : Program) (notes : List NodeNote) → IsProgram bytes P notes → ∥ DoesAsSource P notes [] ∥₁
@@ -58,11 +60,11 @@ due_means words bytes a (does job call due) = λ other call'. subst (λ j. JobMe
 
 -- a source that is run is never stuck
 run_unstuck : (bytes : List ℕ) (budget : ℕ) (kind : StuckKind) → IsRunDue bytes budget (stuck kind) → ⊥
-run_unstuck bytes budget kind (run_refused number at why is) = let e = ap (λ (x : Answer). x.status) is in cc
-run_unstuck bytes budget kind (runs P notes is (ends n (Done x) le end same)) = let e = ap (λ (x : Answer). x.status) same in cc
-run_unstuck bytes budget kind (runs P notes is (ends n (Trap why) le end same)) = let e = ap (λ (x : Answer). x.status) same in cc
-run_unstuck bytes budget kind (runs P notes is (ends n (Stuck why) le end same)) = ∥∥₁_elim (does_as_source bytes P notes is) (λ x y. absurd x) (λ d. d.never_stuck n why end)
-run_unstuck bytes budget kind (runs P notes is (goes_on still same)) = let e = ap (λ (x : Answer). x.status) same in cc
+run_unstuck bytes budget kind (run_refused number at why is) = stuck_or_refused kind number at is
+run_unstuck bytes budget kind (runs P notes is (ends n (Done x) le end same)) = stuck_or_shown kind x same
+run_unstuck bytes budget kind (runs P notes is (ends n (Trap why) le end same)) = stuck_or_trapped kind why same
+run_unstuck bytes budget kind (runs P notes is (ends n (Stuck why) le end same)) = not_so (does_as_source bytes P notes is) (λ d. d.never_stuck n why end)
+run_unstuck bytes budget kind (runs P notes is (goes_on still same)) = stuck_or_running kind same
 
 -- and so its call doesn't answer that it is stuck
 pub source_unstuck : (source bytes : List ℕ) (budget : ℕ) (g : Given) → RunsSource source bytes budget g → IsUnstuck g

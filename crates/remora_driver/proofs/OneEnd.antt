@@ -68,18 +68,40 @@ coded_stuck = code_by ℕ coded_ℕ stuck_number stuck_numbered stuck_kind_numbe
 
 -- ---- runs
 
+-- what there is some proof of isn't refuted
+pub not_so : {A : Type 0} → ∥ A ∥₁ → (A → ⊥) → ⊥
+not_so h f = ∥∥₁_elim h (λ x y. absurd x) f
+
+done_or_trap : (x : Array) (k : TrapKind) → ◌≡◌ {A = Outcome Value} (Done x) (Trap k) → ⊥
+done_or_trap x k e = absurd (cc)
+
+done_or_stuck : (x : Array) (k : StuckKind) → ◌≡◌ {A = Outcome Value} (Done x) (Stuck k) → ⊥
+done_or_stuck x k e = absurd (cc)
+
+trap_or_stuck : (k : TrapKind) (l : StuckKind) → ◌≡◌ {A = Outcome Value} (Trap k) (Stuck l) → ⊥
+trap_or_stuck k l e = absurd (cc)
+
+done_same : (x y : Array) → ◌≡◌ {A = Outcome Value} (Done x) (Done y) → x ≡ y
+done_same x y e = cc
+
+trap_same : (k l : TrapKind) → ◌≡◌ {A = Outcome Value} (Trap k) (Trap l) → k ≡ l
+trap_same k l e = cc
+
+stuck_same : (k l : StuckKind) → ◌≡◌ {A = Outcome Value} (Stuck k) (Stuck l) → k ≡ l
+stuck_same k l e = cc
+
 -- an end stands for one answer
 one_outcome : (o p : Outcome Value) → ∥ o ≡ p ∥₁ → outcome_answer o ≡ outcome_answer p
 one_outcome (Done x) (Done y) same =
-    ap (λ (text : List ℕ). written (line text)) (∥∥₁_elim same (Coded-set (coded_list coded_ℕ) (array_text x) (array_text y)) (λ e. let f : x ≡ y = cc in ap array_text f))
-one_outcome (Done x) (Trap k) same = ∥∥₁_elim same (λ x y. absurd x) (λ e. cc)
-one_outcome (Done x) (Stuck k) same = ∥∥₁_elim same (λ x y. absurd x) (λ e. cc)
-one_outcome (Trap k) (Done y) same = ∥∥₁_elim same (λ x y. absurd x) (λ e. cc)
-one_outcome (Trap k) (Trap l) same = ap trapped (∥∥₁_elim same (Coded-set coded_kind k l) (λ e. cc))
-one_outcome (Trap k) (Stuck l) same = ∥∥₁_elim same (λ x y. absurd x) (λ e. cc)
-one_outcome (Stuck k) (Done y) same = ∥∥₁_elim same (λ x y. absurd x) (λ e. cc)
-one_outcome (Stuck k) (Trap l) same = ∥∥₁_elim same (λ x y. absurd x) (λ e. cc)
-one_outcome (Stuck k) (Stuck l) same = ap stuck (∥∥₁_elim same (Coded-set coded_stuck k l) (λ e. cc))
+    ap (λ (text : List ℕ). written (line text)) (∥∥₁_elim same (Coded-set (coded_list coded_ℕ) (array_text x) (array_text y)) (λ e. ap array_text (done_same x y e)))
+one_outcome (Done x) (Trap k) same = absurd (not_so same (done_or_trap x k))
+one_outcome (Done x) (Stuck k) same = absurd (not_so same (done_or_stuck x k))
+one_outcome (Trap k) (Done x) same = absurd (not_so same (λ e. done_or_trap x k (sym e)))
+one_outcome (Trap k) (Trap l) same = ap trapped (∥∥₁_elim same (Coded-set coded_kind k l) (trap_same k l))
+one_outcome (Trap k) (Stuck l) same = absurd (not_so same (trap_or_stuck k l))
+one_outcome (Stuck k) (Done x) same = absurd (not_so same (λ e. done_or_stuck x k (sym e)))
+one_outcome (Stuck k) (Trap l) same = absurd (not_so same (λ e. trap_or_stuck l k (sym e)))
+one_outcome (Stuck k) (Stuck l) same = ap stuck (∥∥₁_elim same (Coded-set coded_stuck k l) (stuck_same k l))
 
 -- what is due for a code
 module _ (c d : Code) (same : ∥ c ≡ d ∥₁) (budget : ℕ) where
@@ -88,10 +110,10 @@ module _ (c d : Code) (same : ∥ c ≡ d ∥₁) (budget : ℕ) where
       ∥∥₁_map same (λ s. (code_ends_once d [] n m o p (subst (λ (code : Code). Ends value_rules code [] n o) s e) f).1)
 
   ends_late : (n : ℕ) (o : Outcome Value) → n ≤ budget → Ends value_rules c [] n o → StillRuns d [] budget → ⊥
-  ends_late n o le e going = ∥∥₁_elim same (λ x y. absurd x) (λ s. going n o le (subst (λ (code : Code). Ends value_rules code [] n o) s e))
+  ends_late n o le e going = not_so same (λ s. going n o le (subst (λ (code : Code). Ends value_rules code [] n o) s e))
 
   goes_late : (n : ℕ) (o : Outcome Value) → n ≤ budget → Ends value_rules d [] n o → StillRuns c [] budget → ⊥
-  goes_late n o le e going = ∥∥₁_elim same (λ x y. absurd x) (λ s. going n o le (subst (λ (code : Code). Ends value_rules code [] n o) (sym s) e))
+  goes_late n o le e going = not_so same (λ s. going n o le (subst (λ (code : Code). Ends value_rules code [] n o) (sym s) e))
 
   pub one_code_due : (a b : Answer) → IsCodeDue c budget a → IsCodeDue d budget b → a ≡ b
   one_code_due a b (ends n o le end p) (ends m o' le' end' q) = p ∙ one_outcome o o' (ends_once n m o o' end end') ∙ sym q
@@ -101,8 +123,8 @@ module _ (c d : Code) (same : ∥ c ≡ d ∥₁) (budget : ℕ) where
 
   pub one_execution : (a b : Answer) → IsExecutionDue c budget a → IsExecutionDue d budget b → a ≡ b
   one_execution a b (not_executed some p) (not_executed some' q) = p ∙ sym q
-  one_execution a b (not_executed some p) (is_executed none due) = absurd (∥∥₁_elim same (λ x y. absurd x) (λ s. some (ap (λ (code : Code). code.params) s ∙ none)))
-  one_execution a b (is_executed none due) (not_executed some q) = absurd (∥∥₁_elim same (λ x y. absurd x) (λ s. some (ap (λ (code : Code). code.params) (sym s) ∙ none)))
+  one_execution a b (not_executed some p) (is_executed none due) = absurd (not_so same (λ s. some (ap (λ (code : Code). code.params) s ∙ none)))
+  one_execution a b (is_executed none due) (not_executed some q) = absurd (not_so same (λ s. some (ap (λ (code : Code). code.params) (sym s) ∙ none)))
   one_execution a b (is_executed none due) (is_executed none' due') = one_code_due a b due due'
 
 -- ---- reductions

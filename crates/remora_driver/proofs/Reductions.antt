@@ -37,11 +37,12 @@ use Rattle.remora_driver.specs.declared.errors.DataRefusal.TheVariants as no_dat
 use Rattle.remora_driver.specs.declared.reducing.Reduction.{Reduction}
 use Rattle.remora_driver.specs.declared.reducing.Reduction.TheVariants as reduction
 use Rattle.remora_driver.specs.Calls.{IsUnstuck, ReducesSource}
-use Rattle.remora_driver.specs.Due.{Answer, stuck, HasEnd, reaches, traps, keeps_going, IsReductionDue, not_reduced, is_reduced, IsReduceDue, reduce_refused, reduces}
+use Rattle.remora_driver.specs.Due.{Answer, front, stuck, HasEnd, reaches, traps, keeps_going, IsReductionDue, not_reduced, is_reduced, IsReduceDue, reduce_refused, reduces}
 use Rattle.remora_driver.specs.Jobs.{longest_source}
 use Rattle.remora_driver.specs.Programs.{IsAcceptedSource}
 use Rattle.remora_driver.specs.Reducible.{IsReducible}
 use Rattle.remora_driver.specs.Reductions.{notes_of, IsStarted, StandsAt, IsPrinted, IsValueOf, ended, EndsIn, IsCheckedDue, place_of, IsNoData, surplus, LooksForData, LooksForForms}
+use Rattle.remora_driver.proofs.Statuses.{stuck_or_shown, stuck_or_trapped, stuck_or_refused, stuck_or_running}
 
 -- ---- inputs
 
@@ -140,16 +141,16 @@ source_due source budget c a is due = reduces (program_of c.program) (notes_of c
 
 -- which is never that it is stuck
 end_unstuck : (P : syntax.Program) (notes : List NodeNote) (budget : ℕ) (kind : StuckKind) → HasEnd P notes budget (stuck kind) → ⊥
-end_unstuck P notes budget kind (reaches k v x le r same is) = let e = ap (λ (a : Answer). a.status) is in cc
-end_unstuck P notes budget kind (traps k why le r is) = let e = ap (λ (a : Answer). a.status) is in cc
-end_unstuck P notes budget kind (keeps_going going is) = let e = ap (λ (a : Answer). a.status) is in cc
+end_unstuck P notes budget kind (reaches k v x le r same is) = stuck_or_shown kind x is
+end_unstuck P notes budget kind (traps k why le r is) = stuck_or_trapped kind why is
+end_unstuck P notes budget kind (keeps_going going is) = stuck_or_running kind is
 
 reduction_unstuck : (P : syntax.Program) (notes : List NodeNote) (budget : ℕ) (kind : StuckKind) → IsReductionDue P notes budget (stuck kind) → ⊥
-reduction_unstuck P notes budget kind (not_reduced none is) = let e = ap (λ (a : Answer). a.status) is in cc
+reduction_unstuck P notes budget kind (not_reduced none is) = stuck_or_refused kind 90 front is
 reduction_unstuck P notes budget kind (is_reduced reducible end) = end_unstuck P notes budget kind end
 
 reduce_unstuck : (source : List ℕ) (budget : ℕ) (kind : StuckKind) → IsReduceDue source budget (stuck kind) → ⊥
-reduce_unstuck source budget kind (reduce_refused number at why is) = let e = ap (λ (a : Answer). a.status) is in cc
+reduce_unstuck source budget kind (reduce_refused number at why is) = stuck_or_refused kind number at is
 reduce_unstuck source budget kind (reduces P notes is are due) = reduction_unstuck P notes budget kind due
 
 pub source_unstuck : (source bytes : List ℕ) (budget : ℕ) (g : Given) → ReducesSource source bytes budget g → IsUnstuck g

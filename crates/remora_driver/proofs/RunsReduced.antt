@@ -14,7 +14,7 @@ use Rattle.remora_driver.specs.Laws.{RunIsReduce}
 use Rattle.remora_driver.specs.Texts.{line}
 use Rattle.remora_driver.proofs.Meant.{does_as_source}
 use Rattle.remora_driver.proofs.OneDue.{one_source, one_refusal, refused_or_not, code_or_not, program_notes, notes_agree}
-use Rattle.remora_driver.proofs.OneEnd.{coded_kind, values_agree, kinds_agree, value_or_trap, trap_or_value}
+use Rattle.remora_driver.proofs.OneEnd.{not_so, coded_kind, values_agree, kinds_agree, value_or_trap, trap_or_value}
 
 -- one program, whose code ends within one budget and whose reduction within another
 module _ (P : Program) (ns ms : List NodeNote) (same : ∥ ns ≡ ms ∥₁) (does : ∥ DoesAsSource P ns [] ∥₁) (steps reductions : ℕ) (a b : Answer) (left : a ≢ still_running) (right : b ≢ still_running) where
@@ -24,13 +24,13 @@ module _ (P : Program) (ns ms : List NodeNote) (same : ∥ ns ≡ ms ∥₁) (do
       ∥∥₁_elim does (Coded-set (coded_list coded_ℕ) (array_text x) (array_text y)) (λ d. let r = d.done n x end in values_agree P ns ms same r.0 l r.1 w x y r.2 s r.3 is') in
       p ∙ ap (λ (t : List ℕ). written (line t)) text ∙ sym q
   ended_alike (ends n (Done x) le end p) (traps l kind le' s q) =
-      absurd (∥∥₁_elim does (λ x y. absurd x) (λ d. let r = d.done n x end in value_or_trap P ns ms same r.0 l r.1 kind r.2 s))
+      absurd (not_so does (λ d. let r = d.done n x end in value_or_trap P ns ms same r.0 l r.1 kind r.2 s))
   ended_alike (ends n (Trap k) le end p) (reaches l w y le' s is' q) =
-      absurd (∥∥₁_elim does (λ x y. absurd x) (λ d. let r = d.trapped n k end in trap_or_value P ns ms same r.0 l k w r.1 s))
+      absurd (not_so does (λ d. let r = d.trapped n k end in trap_or_value P ns ms same r.0 l k w r.1 s))
   ended_alike (ends n (Trap k) le end p) (traps l kind le' s q) =
       let one : k ≡ kind = ∥∥₁_elim does (Coded-set coded_kind k kind) (λ d. let r = d.trapped n k end in kinds_agree P ns ms same r.0 l k kind r.1 s) in
       p ∙ ap trapped one ∙ sym q
-  ended_alike (ends n (Stuck k) le end p) due = absurd (∥∥₁_elim does (λ x y. absurd x) (λ d. d.never_stuck n k end))
+  ended_alike (ends n (Stuck k) le end p) due = absurd (not_so does (λ d. d.never_stuck n k end))
   ended_alike (goes_on still p) due = absurd (left p)
   ended_alike (ends n o le end p) (keeps_going going q) = absurd (right q)
 
