@@ -1,4 +1,5 @@
 // Calls of the library that the program doesn't make.
+use crate::codes::code_text;
 use core_syntax::{Checked, Memory, TrapKind};
 use remora_driver::{Answer, SourceRefusal, build, check_source, exec, reduce_source, run_source};
 use std::alloc::{AllocError, Global};
@@ -78,6 +79,29 @@ fn sources_with_data(rt: HostRuntime) -> Result<(), Fail> {
         blanks.as_slice(),
         "data refused 44 1:1",
     )
+}
+
+// So many boxes stand in one another.
+const DEPTH: usize = 20_000;
+
+fn text_length(answer: &Answer) -> usize {
+    match answer {
+        Answer::Text(text) => text.len(),
+        _ => 0,
+    }
+}
+
+#[test]
+fn boxes_in_one_another_are_shown(rt: HostRuntime) -> Result<(), Fail> {
+    let alloc = rt.alloc();
+    let blocks = format!(in alloc;
+        "prim fold; tapp (shape); iapp ({DEPTH} (shape) (shape)) (shape); close fn 1 2; const () 0; prim replicate; tapp (shape); iapp ({DEPTH} (shape)) (shape); const () 0; app ((shape)) (shape {DEPTH}); app ((shape) (shape) (shape {DEPTH})) (shape) | var 1; box 1"
+    )?;
+    let code = code_text(alloc, blocks.as_str())?;
+    let answer = exec(alloc, code.as_bytes(), b"", 1_000_000);
+    // `(array ()`, for each box ` (box 1 (array ()` and `))`, ` 0`, `)` and the end of the line
+    assert_eq!(rt; text_length(&answer), 9 + DEPTH * (17 + 2) + 2 + 1 + 1);
+    Ok(())
 }
 
 // What a step comes to.
