@@ -1,5 +1,5 @@
 -- One answer is due.
-use Rattle.std.proofs.Common.{◌≡◌, sym, ap, ◌∙◌, subst, ℕ, arith, List, [], Option, Some, Ok, Err}
+use Rattle.std.proofs.Common.{◌≡◌, sym, ap, ◌∙◌, subst, ℕ, arith, List, [], ◌++◌, Option, Some, Ok, Err}
 use Rattle.std.proofs.lemmas.Option.{none-some}
 use Rattle.std.proofs.Math.Logic.{∥∥₁_elim, ∥∥₁_map, ∥∥₁_map₂}
 use Rattle.std.specs.Coded.{Coded-set, coded_list, coded_ℕ}
@@ -22,7 +22,7 @@ use Rattle.name_resolve.specs.Reading.{Read}
 use Rattle.lowering.specs.Laws.{code_of_program}
 use Rattle.code_text.specs.Blame.{CodeText}
 use Rattle.code_text.specs.Text.{code_text}
-use Rattle.code_text.proofs.Verdicts.{one_code_read}
+use Rattle.remora_driver.proofs.Assumed.{one_code_read}
 use Rattle.remora_driver.specs.declared.job.Job.{Job}
 use Rattle.remora_driver.specs.declared.job.Job.TheVariants.{Check, Build, Run, Exec, Reduce}
 use Rattle.remora_driver.specs.Due.{Answer, written, refused, IsRefused, too_long, unread, unresolved, ill_typed, IsCheckDue, check_refused, checks, HasNoCode, not_accepted, has_inputs, IsRunDue, run_refused, runs, IsBuildDue, build_refused, builds, IsExecDue, text_too_long, no_code, executes, IsReductionDue, IsReduceDue, reduce_refused, reduces, IsJobDue, IsDue, no_job, does}
@@ -127,7 +127,7 @@ one_check bytes a b (checks P t is has e) (checks Q u is' has' h) =
 
 -- a program with inputs doesn't run
 pub inputs_or_not : (bytes : List ℕ) (P Q : Program) (notes : List NodeNote) → IsSource bytes P → ¬ (P.inputs ≡ []) → IsProgram bytes Q notes → ⊥
-inputs_or_not bytes P Q notes is some runs = some (ap (λ (R : Program). R.inputs) (one_source bytes P Q is runs.source.means) ∙ runs.inputs)
+inputs_or_not bytes P Q notes is some none = some (ap (λ (R : Program). R.inputs) (one_source bytes P Q is none.source.means) ∙ none.inputs)
 
 pub one_no_code : (bytes : List ℕ) (m n : ℕ) (p q : Span) → HasNoCode bytes m p → HasNoCode bytes n q → refused m p ≡ refused n q
 one_no_code bytes m n p q (not_accepted why) (not_accepted why') = one_refusal bytes m n p q why why'
