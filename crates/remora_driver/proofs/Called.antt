@@ -1,5 +1,5 @@
 -- What calls answer, from what is due.
-use Rattle.std.proofs.Common.{◌≡◌, refl, sym, ap, ◌∙◌, subst, ℕ, ◌<◌, arith, List, [], length, Option, Some, None, Result, Ok, Err}
+use Rattle.std.proofs.Common.{rules, ◌≡◌, refl, sym, ap, ◌∙◌, subst, ℕ, ◌<◌, arith, List, [], length, Option, Some, None, Result, Ok, Err}
 use Rattle.std.specs.Prelude.{IfOk, ⊤}
 use Rattle.std.proofs.lemmas.Option.{none-some}
 use Rattle.core_syntax.specs.declared.span.Span.{Span}

@@ -22,7 +22,7 @@ use Rattle.name_resolve.specs.Reading.{Read}
 use Rattle.lowering.specs.Laws.{code_of_program}
 use Rattle.code_text.specs.Blame.{CodeText}
 use Rattle.code_text.specs.Text.{code_text}
-use Rattle.remora_driver.proofs.Assumed.{one_code_read}
+use Rattle.code_text.proofs.Verdicts.{one_code_read}
 use Rattle.remora_driver.specs.declared.job.Job.{Job}
 use Rattle.remora_driver.specs.declared.job.Job.TheVariants.{Check, Build, Run, Exec, Reduce}
 use Rattle.remora_driver.specs.Due.{Answer, written, refused, IsRefused, too_long, unread, unresolved, ill_typed, IsCheckDue, check_refused, checks, HasNoCode, not_accepted, has_inputs, IsRunDue, run_refused, runs, IsBuildDue, build_refused, builds, IsExecDue, text_too_long, no_code, executes, IsReductionDue, IsReduceDue, reduce_refused, reduces, IsJobDue, IsDue, no_job, does}
