@@ -90,7 +90,7 @@ ends_going c budget closed stands = keeps_going stands.2 refl
 
 -- ---- the test
 
-not_true : (b : Truth) → b ≡ false → IsTrue b → ⊥
+pub not_true : (b : Truth) → b ≡ false → IsTrue b → ⊥
 not_true b e h = let x : false ≡ true = sym e ∙ h in cc
 
 -- the test says that the program is reduced today, or that it isn't
