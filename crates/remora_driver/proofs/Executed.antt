@@ -1,6 +1,7 @@
 -- What is due for a code text, from what reading it says.
-use Rattle.std.proofs.Common.{◌≡◌, sym, ap, ◌∙◌, subst, ℕ, List, [], ◌∷◌, length, ◌==◌, Bool as Truth, true, false}
+use Rattle.std.proofs.Common.{◌≡◌, sym, ap, ◌∙◌, subst, ℕ, arith, List, [], ◌∷◌, length, ◌==◌, Bool as Truth, true, false}
 use Rattle.std.specs.Prelude.{map}
+use Rattle.std.proofs.lemmas.Bool.Decides.{nat_tests}
 use Rattle.machine_table.specs.declared.code.Param.{Param}
 use Rattle.machine_table.specs.Codes.{Code, param_of}
 use Rattle.code_text.specs.declared.refusal.CodeKind.{CodeKind}
@@ -19,7 +20,7 @@ module _ (c : Code) (params : List Param) (b : Truth) (are : map param_of params
     where
       none : (ps : List Param) → (length ps == 0) ≡ true → map param_of ps ≡ c.params → c.params ≡ []
       none [] e h = sym h
-      none (p ∷ ps) e h = absurd (cc)
+      none (p ∷ ps) e h = absurd (grind (arith, nat_tests))
 
   pub some_params : b ≡ false → c.params ≡ [] → ⊥
   some_params e is = some params (sym tells ∙ e) (are ∙ is)

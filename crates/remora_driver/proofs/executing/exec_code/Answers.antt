@@ -1,4 +1,4 @@
-use Rattle.std.proofs.Common.{◌≡◌, refl, true, false}
+use Rattle.std.proofs.Common.{◌≡◌, refl, true, false, []}
 use Rattle.std.specs.Prelude.{⊤}
 use Rattle.core_syntax.specs.Syntax.{Ty}
 use Rattle.remora_driver.specs.Due.{IsCodeDue, IsExecutionDue, not_executed, is_executed}

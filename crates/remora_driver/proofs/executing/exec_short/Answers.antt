@@ -1,5 +1,5 @@
 use Rattle.std.proofs.Common.{◌≡◌, refl, sym, subst, []}
-use Rattle.code_text.specs.Blame.{Blame}
+use Rattle.code_text.specs.Blame.{Blame, IsDue}
 use Rattle.remora_driver.specs.Calls.{RunsText, IsExecuted}
 use Rattle.remora_driver.specs.Due.{IsExecutionDue, IsExecDue, no_code, executes}
 use Rattle.remora_driver.proofs.Called.{called_back}
@@ -7,7 +7,8 @@ use Rattle.remora_driver.proofs.Executed.{is_blamed}
 use Rattle.remora_driver.proofs.executing.exec_short.Goals as goal
 
 pub refused-requires-clause-blame : goal.refused-requires-clause-blame
-refused-requires-clause-blame c = is_blamed c.args.text.now _ c.in-Err-Refused.kind c.in-Err-Refused.at c.in-Err-Refused.field-0-is c.in-Err-Refused.ensures.refused
+refused-requires-clause-blame c =
+    rw c.in-Err-Refused.field-0-is (subst (IsDue c.args.text.now) c.in-Err-Refused.field-0-is c.in-Err-Refused.ensures.refused)
 
 pub returns-in-Ok : goal.returns-in-Ok
 returns-in-Ok c =
@@ -17,4 +18,4 @@ returns-in-Ok c =
 pub returns-in-Err-Refused : goal.returns-in-Err-Refused
 returns-in-Err-Refused c =
     subst (RunsText c.args.text.now c.args.given.now c.args.budget) (sym c.refused.ensures)
-    (no_code c.in-Err-Refused.kind c.in-Err-Refused.at c.requires (is_blamed c.args.text.now _ c.in-Err-Refused.kind c.in-Err-Refused.at c.in-Err-Refused.field-0-is c.in-Err-Refused.ensures.refused) refl)
+    (no_code _ _ c.requires (rw c.in-Err-Refused.field-0-is (subst (IsDue c.args.text.now) c.in-Err-Refused.field-0-is c.in-Err-Refused.ensures.refused)) refl)
