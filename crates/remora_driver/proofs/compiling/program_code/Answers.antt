@@ -12,6 +12,8 @@ returns-then-not-is_empty c =
 
 pub returns-in-Ok : goal.returns-in-Ok
 returns-in-Ok c =
-    let e : c.is_empty.result ≡ true = (let f = c.if-not-is_empty.false in cc) in
-    (no_inputs c.args.checked.now c.program-program.result.now c.is_empty.result c.program-program.ensures c.is_empty.ensures e,
-     subst (λ (P : Program). LiteralsFit (program_of P)) c.program-program.ensures c.read_literals.ensures, c.in-Ok.ensures)
+    let e : c.is_empty.result ≡ true = (let f = c.if-not-is_empty.false in cc) in (
+      no_inputs c.args.checked.now c.program-program.result.now c.is_empty.result c.program-program.ensures c.is_empty.ensures e,
+      subst (λ (P : Program). LiteralsFit (program_of P)) c.program-program.ensures c.read_literals.ensures,
+      c.in-Ok.ensures,
+    )
