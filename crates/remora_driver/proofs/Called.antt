@@ -1,11 +1,11 @@
 -- What calls answer, from what is due.
-use Rattle.std.proofs.Common.{rules, ◌≡◌, refl, sym, ap, ◌∙◌, subst, ℕ, ◌<◌, arith, List, [], length, Option, Some, None, Result, Ok, Err}
-use Rattle.std.specs.Prelude.{IfOk, ⊤}
+use Rattle.std.proofs.Common.{rules, ◌≡◌, refl, sym, ◌∙◌, subst, ℕ, arith, List, [], Some, Result, Ok, Err}
+use Rattle.std.specs.Prelude.{IfOk}
 use Rattle.std.proofs.lemmas.Option.{none-some}
 use Rattle.core_syntax.specs.declared.span.Span.{Span}
 use Rattle.core_syntax.proofs.Unique.{some_is}
-use Rattle.sexp_reader.specs.Forms.{Form, Forms, no_forms, more_forms}
-use Rattle.sexp_reader.specs.Reads.{Reads, read_blame}
+use Rattle.sexp_reader.specs.Forms.{no_forms, more_forms}
+use Rattle.sexp_reader.specs.Reads.{Reads}
 use Rattle.sexp_reader.specs.Tokens.{tokens_from}
 use Rattle.sexp_reader.proofs.Leftmost.{reads_one_way, reads_or_is_refused}
 use Rattle.remora_driver.specs.declared.answer.Answer.{Answer as Given}

@@ -1,5 +1,5 @@
 -- What is due for a code text, from what reading it says.
-use Rattle.std.proofs.Common.{◌≡◌, sym, ap, ◌∙◌, subst, ℕ, arith, List, [], ◌∷◌, length, ◌==◌, Bool as Truth, true, false}
+use Rattle.std.proofs.Common.{◌≡◌, sym, ◌∙◌, subst, ℕ, arith, List, [], ◌∷◌, length, ◌==◌, Bool as Truth, true, false}
 use Rattle.std.specs.Prelude.{map}
 use Rattle.std.proofs.lemmas.Bool.Decides.{nat_tests}
 use Rattle.machine_table.specs.declared.code.Param.{Param}

@@ -12,11 +12,9 @@ use Rattle.compiled_laws.specs.Laws.{DoesAsSource}
 use Rattle.compiled_laws.proofs.Results.{code_does, code_goes_on}
 use Rattle.remora_driver.specs.declared.answer.Answer.{Answer as Given}
 use Rattle.remora_driver.specs.declared.answer.Answer.TheVariants as given
-use Rattle.remora_driver.specs.declared.job.Job.{Job}
 use Rattle.remora_driver.specs.declared.job.Job.TheVariants.{Check, Build, Run, Exec, Reduce}
 use Rattle.remora_driver.specs.Calls.{RunsSource, IsUnstuck}
-use Rattle.remora_driver.specs.Due.{Answer, stuck, IsCodeDue, ends, goes_on, IsRunDue, run_refused, runs, IsBuildDue, build_refused, builds, IsJobDue, IsDue, no_job, does}
-use Rattle.remora_driver.specs.Jobs.{IsJob}
+use Rattle.remora_driver.specs.Due.{Answer, stuck, IsCodeDue, ends, goes_on, IsRunDue, run_refused, runs, IsBuildDue, build_refused, builds, IsDue, no_job, does}
 use Rattle.remora_driver.specs.Laws.{DueMeans}
 use Rattle.remora_driver.specs.Meant.{ShowsReduction, value, trap, unfinished, IsRunMeant, not_run, shows, IsBuildMeant, not_built, gives, IsJobMeant, IsMeant}
 use Rattle.remora_driver.specs.Programs.{IsProgram}

@@ -20,7 +20,6 @@ use Rattle.sexp_reader.proofs.Leftmost.{reads_one_way, reads_or_is_refused}
 use Rattle.name_resolve.specs.Means.{NameBlame, program}
 use Rattle.name_resolve.specs.Reading.{Read}
 use Rattle.lowering.specs.Laws.{code_of_program}
-use Rattle.code_text.specs.Blame.{CodeText}
 use Rattle.code_text.specs.Text.{code_text}
 use Rattle.code_text.proofs.Verdicts.{one_code_read}
 use Rattle.remora_driver.specs.declared.job.Job.{Job}

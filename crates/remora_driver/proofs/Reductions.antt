@@ -41,7 +41,7 @@ use Rattle.remora_driver.specs.Due.{Answer, front, stuck, HasEnd, reaches, traps
 use Rattle.remora_driver.specs.Jobs.{longest_source}
 use Rattle.remora_driver.specs.Programs.{IsAcceptedSource}
 use Rattle.remora_driver.specs.Reducible.{IsReducible}
-use Rattle.remora_driver.specs.Reductions.{notes_of, IsStarted, StandsAt, IsPrinted, IsValueOf, ended, EndsIn, IsCheckedDue, place_of, IsNoData, surplus, LooksForData, LooksForForms}
+use Rattle.remora_driver.specs.Reductions.{notes_of, IsStarted, StandsAt, IsPrinted, IsValueOf, ended, EndsIn, IsCheckedDue, place_of, surplus, LooksForData, LooksForForms}
 use Rattle.remora_driver.proofs.Statuses.{stuck_or_shown, stuck_or_trapped, stuck_or_refused, stuck_or_running}
 
 -- ---- inputs

@@ -1,7 +1,6 @@
 -- What calls on a source or a code text answer, beside data.
 use Rattle.std.specs.Prelude.{◌≡◌, ℕ, ◌≤◌, List, [], length, Option, Some, None, ⊤}
 use Rattle.core_syntax.specs.declared.checked.Checked.{Checked}
-use Rattle.core_syntax.specs.declared.span.Span.{Span}
 use Rattle.core_syntax.specs.Notes.{NodeNote}
 use Rattle.core_syntax.specs.Syntax.{Program}
 use Rattle.core_syntax.specs.Wholes.{program_of}
@@ -15,7 +14,7 @@ use Rattle.remora_driver.specs.Due.{Answer, written, refused, trapped, stuck, st
 use Rattle.remora_driver.specs.Jobs.{longest_code}
 use Rattle.remora_driver.specs.Programs.{IsAcceptedSource, IsProgram}
 use Rattle.remora_driver.specs.Reducible.{IsReducible}
-use Rattle.remora_driver.specs.Reductions.{IsCheckedDue, EndsIn, IsNoData, IsSurplus}
+use Rattle.remora_driver.specs.Reductions.{IsCheckedDue, IsNoData, IsSurplus}
 
 -- the status and the text of an answer; refused data and want of memory have none in the top call
 abbrev pub answer_of : Given → Option Answer

@@ -1,6 +1,5 @@
 use Rattle.std.proofs.Common.{◌≡◌, refl, true, false, []}
 use Rattle.std.specs.Prelude.{⊤}
-use Rattle.core_syntax.specs.Syntax.{Ty}
 use Rattle.remora_driver.specs.Due.{IsCodeDue, IsExecutionDue, not_executed, is_executed}
 use Rattle.remora_driver.proofs.Called.{called_back}
 use Rattle.remora_driver.proofs.Executed.{no_params, some_params}

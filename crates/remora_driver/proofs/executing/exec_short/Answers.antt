@@ -1,9 +1,8 @@
 use Rattle.std.proofs.Common.{◌≡◌, refl, sym, subst, []}
-use Rattle.code_text.specs.Blame.{Blame, IsDue}
+use Rattle.code_text.specs.Blame.{IsDue}
 use Rattle.remora_driver.specs.Calls.{RunsText, IsExecuted}
 use Rattle.remora_driver.specs.Due.{IsExecutionDue, IsExecDue, no_code, executes}
 use Rattle.remora_driver.proofs.Called.{called_back}
-use Rattle.remora_driver.proofs.Executed.{is_blamed}
 use Rattle.remora_driver.proofs.executing.exec_short.Goals as goal
 
 pub refused-requires-clause-blame : goal.refused-requires-clause-blame
