@@ -40,7 +40,7 @@ due_told IsDue a (given.Text text) due h = (a, due, h)
 due_told IsDue a (given.Trap kind) due h = (a, due, h)
 due_told IsDue a (given.Refused number at) due h = (a, due, h)
 due_told IsDue a (given.DataRefused number at) due h = (a, due, h)
-due_told IsDue a (given.Stuck kind) due h = (a, due, h)
+due_told IsDue a (given.Stuck _) due h = (a, due, h)
 due_told IsDue a given.StillRunning due h = (a, due, h)
 due_told IsDue a given.Memory due h = tt
 
@@ -50,7 +50,7 @@ called IsDue T bytes (given.Text text) none h = (none, subst IsDue (sym (some_is
 called IsDue T bytes (given.Trap kind) none h = (none, subst IsDue (sym (some_is _ _ h.2)) h.1)
 called IsDue T bytes (given.Refused number at) none h = subst IsDue (sym (some_is _ _ h.2)) h.1
 called IsDue T bytes (given.DataRefused number at) none h = absurd (none-some h.0 h.2)
-called IsDue T bytes (given.Stuck kind) none h = (none, subst IsDue (sym (some_is _ _ h.2)) h.1)
+called IsDue T bytes (given.Stuck _) none h = (none, subst IsDue (sym (some_is _ _ h.2)) h.1)
 called IsDue T bytes given.StillRunning none h = (none, subst IsDue (sym (some_is _ _ h.2)) h.1)
 called IsDue T bytes given.Memory none h = tt
 
@@ -70,7 +70,7 @@ takes_data IsDue T (given.Text text) h = tt
 takes_data IsDue T (given.Trap kind) h = tt
 takes_data IsDue T (given.Refused number at) h = tt
 takes_data IsDue T (given.DataRefused number at) h = no_surplus number at h.1
-takes_data IsDue T (given.Stuck kind) h = tt
+takes_data IsDue T (given.Stuck _) h = tt
 takes_data IsDue T given.StillRunning h = tt
 takes_data IsDue T given.Memory h = tt
 
@@ -80,7 +80,7 @@ reply_due IsDue T (given.Text text) a h e = subst IsDue (some_is _ _ e) h.1
 reply_due IsDue T (given.Trap kind) a h e = subst IsDue (some_is _ _ e) h.1
 reply_due IsDue T (given.Refused number at) a h e = subst IsDue (some_is _ _ e) h
 reply_due IsDue T (given.DataRefused number at) a h e = absurd (none-some a e)
-reply_due IsDue T (given.Stuck kind) a h e = subst IsDue (some_is _ _ e) h.1
+reply_due IsDue T (given.Stuck _) a h e = subst IsDue (some_is _ _ e) h.1
 reply_due IsDue T given.StillRunning a h e = subst IsDue (some_is _ _ e) h.1
 reply_due IsDue T given.Memory a h e = absurd (none-some a e)
 

@@ -61,7 +61,7 @@ run_unstuck : (bytes : List ℕ) (budget : ℕ) (kind : StuckKind) → IsRunDue 
 run_unstuck bytes budget kind (run_refused number at why is) = stuck_or_refused kind number at is
 run_unstuck bytes budget kind (runs P notes is (ends n (Done x) le end same)) = stuck_or_shown kind x same
 run_unstuck bytes budget kind (runs P notes is (ends n (Trap why) le end same)) = stuck_or_trapped kind why same
-run_unstuck bytes budget kind (runs P notes is (ends n (Stuck why) le end same)) = not_so (does_as_source bytes P notes is) (λ d. d.never_stuck n why end)
+run_unstuck bytes budget _ (runs P notes is (ends n (Stuck why) le end same)) = not_so (does_as_source bytes P notes is) (λ d. d.never_stuck n why end)
 run_unstuck bytes budget kind (runs P notes is (goes_on still same)) = stuck_or_running kind same
 
 -- and so its call doesn't answer that it is stuck

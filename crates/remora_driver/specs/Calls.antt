@@ -43,7 +43,7 @@ TakesData _ = ⊤
 
 -- the call isn't stuck
 abbrev pub IsUnstuck : Given → Type 0
-IsUnstuck (given.Stuck kind) = ⊥
+IsUnstuck (given.Stuck _) = ⊥
 IsUnstuck _ = ⊤
 
 -- what a call answers where this is due: a refusal of the source or the code; else the refusal of the data, where a run is due; else how the run ends
