@@ -1,4 +1,4 @@
-use Rattle.machine.proofs.Frames as frames
+use Rattle.machine.proofs.Principal as frames
 use Rattle.machine.proofs.laws.cell_at_place.Goals as goal
 
 pub returns : goal.returns

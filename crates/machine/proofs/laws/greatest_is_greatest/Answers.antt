@@ -1,4 +1,4 @@
-use Rattle.machine.proofs.Frames.{first_greatest}
+use Rattle.machine.proofs.Principal.{first_greatest}
 use Rattle.machine.proofs.laws.greatest_is_greatest.Goals as goal
 
 pub returns : goal.returns
