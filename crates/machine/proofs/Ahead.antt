@@ -1,5 +1,5 @@
 -- Several steps at once: places of a map and turns of a fold that give scalars.
-use Rattle.std.proofs.Common.{◌≡◌, ℕ, zero, suc, ◌+◌, ◌*◌, ◌-◌, ◌<◌, ◌≤◌, refl, ap, sym, subst, ◌∙◌, List, [], ◌∷◌, ◌++◌, length, drop, Bool, true, false, nat_lt, Option, Some, None, is_some, slice_get, arith, length-append}
+use Rattle.std.proofs.Common.{◌≡◌, ℕ, zero, suc, ◌+◌, ◌*◌, ◌-◌, ◌<◌, ◌≤◌, refl, ap, sym, subst, ◌∙◌, List, [], ◌∷◌, ◌++◌, length, drop, get_or, Bool, true, false, nat_lt, Option, Some, None, is_some, slice_get, arith, length-append, IfSome}
 use Rattle.std.specs.Option.{option_map}
 use Rattle.std.specs.List.{All}
 use Rattle.std.proofs.lemmas.Bool.{lt-ltb}
@@ -11,19 +11,24 @@ use Rattle.core_syntax.specs.Lists.{each, product}
 use Rattle.core_syntax.specs.Arrays.{array, runs, single}
 use Rattle.core_syntax.specs.declared.errors.TrapKind.TheVariants as trap
 use Rattle.array_values.specs.Cells.{cell_of, cell_with}
-use Rattle.array_values.specs.Forms.{Forms}
+use Rattle.array_values.specs.Arrays.{IsArray}
+use Rattle.array_values.specs.Forms.{Forms, cells}
 use Rattle.array_values.specs.Values.{Array}
 use Rattle.array_values.specs.declared.value.Value.{Value}
 use Rattle.machine_table.specs.declared.code.Block.{Block}
-use Rattle.machine_table.specs.Begins.{Place, Answers, place_entry}
+use Rattle.machine_table.specs.Begins.{Place, Applies, Entry, Answers, apply_atom, place_entry}
 use Rattle.machine_table.specs.Machine as table
 use Rattle.machine_table.specs.Machine.{Goes, Stops, Mapping, Folding}
-use Rattle.machine_table.specs.ValueRules.{value_rules}
+use Rattle.machine_table.specs.ValueRules.{value_parts, value_rules}
+use Rattle.prim_kernels.specs.Deltas.{scalar_entry, leading_cells}
+use Rattle.prim_kernels.specs.declared.answers.Scalar.{Scalar}
 use Rattle.machine.specs.Entered.{turn_entry}
 use Rattle.machine.specs.Refines.{results_of}
-use Rattle.machine.specs.Scalars.{Leads, scalar_map}
+use Rattle.machine.specs.Scalars.{Leads, given_atom, scalar_map}
+use Rattle.machine.specs.declared.scalars.Given.{Given}
 use Rattle.machine.specs.Works.{result_dims, result_size, work_places}
 use Rattle.machine.specs.declared.state.Work.{Work}
+use Rattle.machine.proofs.Leads.{leading_at}
 use Rattle.machine.proofs.Placed.{take_one}
 use Rattle.machine.proofs.Results.{each_append}
 use Rattle.machine.proofs.Rooms.{forms_true}
@@ -71,6 +76,81 @@ pub cell_is_single : (a : Array) (rank j i : ℕ) (x : Value) → rank ≡ 0 →
 cell_is_single a rank j i x zeros same e =
     let none : drop (length a.dims - rank) a.dims ≡ [] = drop_all (length a.dims - rank) a.dims (omega (arith, zeros)) in
     ap (λ ds. cell_with ds j a.atoms) none ∙ ap (array []) (take_one j a.atoms x (ap (slice_get a.atoms) (sym same) ∙ e))
+
+-- an array without dims is the scalar of its atom
+module _ (a : Array) (whole : IsArray a) (none : a.dims ≡ []) where
+  one_atom : length a.atoms ≡ 1
+  one_atom = whole.full ∙ ap cells none
+
+  pub has_atom : 0 < length a.atoms
+  has_atom = omega (arith, one_atom)
+
+  is_single : (x : Value) → slice_get a.atoms 0 ≡ Some x → a ≡ single x
+  is_single x at = λ i. record { dims = none i; atoms = only a.atoms one_atom at i }
+    where
+      some_is : (y : Value) → ◌≡◌ {A = Option Value} (Some y) (Some x) → y ≡ x
+      some_is y e = cc
+
+      only : (xs : List Value) → length xs ≡ 1 → slice_get xs 0 ≡ Some x → xs ≡ x ∷ []
+      only [] e at = absurd (none-some x at)
+      only (y ∷ []) e at = ap (λ z. z ∷ []) (some_is y at)
+      only (y ∷ z ∷ xs) e at = absurd (omega (arith, e))
+
+  pub array_given : (o : Option Given) (x : Value) → IfSome o (λ g. x ≡ given_atom g) → slice_get a.atoms 0 ≡ Some x → IfSome o (λ g. a ≡ single (given_atom g))
+  array_given None x is at = tt
+  array_given (Some g) x is at = is_single x at ∙ ap single is
+
+-- ---- what a place and a turn give
+
+module _ (o : Option Given) (given : Option Scalar) (is : IfSome o (λ g. option_map scalar_entry given ≡ Some (Answers (single (given_atom g))))) (x : Value) (cs : List Array)
+    (on : IfSome given (λ s. scalar_entry s ≡ apply_atom value_rules (value_parts x) cs)) where
+  applied : IfSome o (λ g. apply_atom value_rules (value_parts x) cs ≡ Answers (single (given_atom g)))
+  applied = go o given is on
+    where
+      some_is : (a b : Entry Value) → ◌≡◌ {A = Option (Entry Value)} (Some a) (Some b) → a ≡ b
+      some_is a b e = cc
+
+      go : (o : Option Given) (given : Option Scalar) → IfSome o (λ g. option_map scalar_entry given ≡ Some (Answers (single (given_atom g)))) → IfSome given (λ s. scalar_entry s ≡ apply_atom value_rules (value_parts x) cs)
+          → IfSome o (λ g. apply_atom value_rules (value_parts x) cs ≡ Answers (single (given_atom g)))
+      go None given is on = tt
+      go (Some g) None is on = absurd (none-some (Answers (single (given_atom g))) is)
+      go (Some g) (Some s) is on = sym on ∙ some_is (scalar_entry s) (Answers (single (given_atom g))) is
+
+  pub place_given : (place : Option (Place Value)) → place ≡ Some (Applies x cs) → IfSome o (λ g. option_map (place_entry value_rules) place ≡ Some (Answers (single (given_atom g))))
+  place_given place at = go o applied
+    where
+      go : (o : Option Given) → IfSome o (λ g. apply_atom value_rules (value_parts x) cs ≡ Answers (single (given_atom g))) → IfSome o (λ g. option_map (place_entry value_rules) place ≡ Some (Answers (single (given_atom g))))
+      go None is = tt
+      go (Some g) is = ap (option_map (place_entry value_rules)) at ∙ ap (λ (e : Entry Value). Some e) is
+
+-- the same of a turn
+pub turn_given : (o : Option Given) (given : Option Scalar) (f acc x : Value) (item : Option Array) → IfSome o (λ g. option_map scalar_entry given ≡ Some (Answers (single (given_atom g))))
+    → IfSome given (λ s. scalar_entry s ≡ apply_atom value_rules (value_parts f) (single acc ∷ single x ∷ [])) → item ≡ Some (single x)
+    → IfSome o (λ g. option_map (turn_entry f (single acc)) item ≡ Some (Answers (single (given_atom g))))
+turn_given o given f acc x item is on at = go o (applied o given is f (single acc ∷ single x ∷ []) on)
+  where
+    go : (o : Option Given) → IfSome o (λ g. apply_atom value_rules (value_parts f) (single acc ∷ single x ∷ []) ≡ Answers (single (given_atom g))) → IfSome o (λ g. option_map (turn_entry f (single acc)) item ≡ Some (Answers (single (given_atom g))))
+    go None is = tt
+    go (Some g) is = ap (option_map (turn_entry f (single acc))) at ∙ ap (λ (e : Entry Value). Some e) is
+
+-- an item of a vector
+module _ (a : Array) (rank : length a.dims ≡ 1) (place : ℕ) where
+  pub item_within : IsArray a → place < get_or a.dims 0 0 → place < length a.atoms
+  item_within whole lt = go a.dims rank whole.full lt
+    where
+      go : (dims : List ℕ) → length dims ≡ 1 → length a.atoms ≡ cells dims → place < get_or dims 0 0 → place < length a.atoms
+      go [] e full lt = absurd (omega (arith, e))
+      go (d ∷ []) e full lt = omega (arith, full, lt)
+      go (d ∷ n ∷ ds) e full lt = absurd (omega (arith, e))
+
+  pub item_is : (x : Value) → place < get_or a.dims 0 0 → slice_get a.atoms place ≡ Some x → slice_get (leading_cells a.dims a.atoms) place ≡ Some (single x)
+  item_is x lt at =
+      leading_at a place (omega (arith, rank)) lt
+      ∙ ap (λ (y : Array). Some y) (cell_is_single a (length a.dims - 1) place place x (omega (arith, rank)) refl at)
+
+-- no step
+pub stays : (blocks : List Block) (n : ℕ) (s : table.State Value) → n ≡ 0 → Leads blocks n s s
+stays blocks n s e = ap (λ (k : ℕ). table.from value_rules blocks k (Goes s)) e
 
 -- ---- the results of a map that are scalars
 

@@ -8,9 +8,9 @@ ghost use Rattle.array_values.specs.Cells.{cell_of};
 ghost use Rattle.array_values.specs.Forms.{Forms};
 ghost use Rattle.array_values.specs.Lent.{value_of, IsLent};
 ghost use Rattle.machine_table.specs.declared.code.Block.{Block as Listed};
-ghost use Rattle.machine_table.specs.Begins.{Answers, place_entry, prim_entry};
+ghost use Rattle.machine_table.specs.Begins.{Answers, apply_atom as applied_atom, place_entry, prim_entry};
 ghost use Rattle.machine_table.specs.Machine as table;
-ghost use Rattle.machine_table.specs.ValueRules.{value_rules};
+ghost use Rattle.machine_table.specs.ValueRules.{value_parts, value_rules};
 ghost use Rattle.machine.specs.Refines.{map_from};
 ghost use Rattle.machine.specs.Scalars.{Leads, given_atom, scalar_map};
 ghost use Rattle.machine.specs.Works.{FitsFrame, Reaches, IsWork, result_dims, work_places, work_places_of};
@@ -92,6 +92,29 @@ fn on_cells(prim: &PrimValue, arguments: &[Argument], place: usize) -> Option<Sc
     }
 }
 
+// An atom, which is a primitive of scalars, on the cells of arguments at a place of the frame.
+fn on_value(atom: &Value, arguments: &[Argument], place: usize) -> Option<Scalar>
+    requires { All (Reaches place) arguments.now }
+    ensures { IfSome result (λ s. scalar_entry s ≡ applied_atom value_rules (value_parts atom.now) (each (λ a. cell_of a.array a.rank (place / a.repeat)) arguments.now)) }
+{
+    match atom {
+        Value::Prim(prim) => on_cells(prim.get(), arguments, place),
+        _ => None,
+    }
+}
+
+// The same of a lent atom.
+fn on_atom(atom: ValueRef<'_>, arguments: &[Argument], place: usize) -> Option<Scalar>
+    requires lent { IsLent atom }
+    requires cells { All (Reaches place) arguments.now }
+    ensures { IfSome result (λ s. scalar_entry s ≡ applied_atom value_rules (value_parts (value_of atom.entry)) (each (λ a. cell_of a.array a.rank (place / a.repeat)) arguments.now)) }
+{
+    match atom {
+        ValueRef::Other(value) => on_value(value, arguments, place),
+        _ => None,
+    }
+}
+
 // What a place of a map gives at once: the function's atom there is a primitive of scalars, on scalars.
 fn scalar_at(
     frame: &[u32],
@@ -107,10 +130,8 @@ fn scalar_at(
     requires place { place < count }
     ensures { IfSome result (λ g. option_map (place_entry value_rules) (slice_get (work_places_of frame.now function.now arguments.now) place) ≡ Some (Answers (single (given_atom g)))) }
 {
-    match function.array.atom_at(part(place, function.repeat)) {
-        ValueRef::Other(Value::Prim(prim)) => scalar_given(on_cells(prim.get(), arguments, place)),
-        _ => None,
-    }
+    let atom = function.array.atom_at(part(place, function.repeat));
+    scalar_given(on_atom(atom, arguments, place))
 }
 
 // Puts a scalar behind results, of which there will be so many.
@@ -124,13 +145,14 @@ fn push_scalar(results: &mut Vec<Value>, scalar: Given, count: usize) -> Result<
     Ok(())
 }
 
-// Puts what places of a map give at once behind the results, from the place behind them on, as far as each gives a scalar
-// and no further than `end`. It answers the place behind the results.
+// Puts what places of a map give at once behind the results of the places before, from the place `given` on, as far as each
+// gives a scalar, and up to `end`. It answers the next place.
 fn push_scalars(
     frame: &[u32],
     count: usize,
     function: &Argument,
     arguments: &[Argument],
+    given: usize,
     end: usize,
     results: &mut Vec<Value>,
 ) -> Result<usize, Memory>
@@ -139,15 +161,16 @@ fn push_scalars(
     requires arguments { All (FitsFrame frame.now count) arguments.now }
     requires count_is { count ≡ product frame.now }
     requires forms { Forms frame.now }
-    requires begun { length results.old.items ≤ end }
+    requires given { length results.old.items ≡ given }
+    requires begun { given ≤ end }
     requires end { end ≤ count }
     ensures place { IfOk result (λ n. length results.new.items ≡ n) }
-    ensures least { IfOk result (λ n. length results.old.items ≤ n) }
+    ensures least { IfOk result (λ n. given ≤ n) }
     ensures most { IfOk result (λ n. n ≤ end) }
-    ensures none { IfOk result (λ n. n ≡ length results.old.items → results.new.items ≡ results.old.items) }
-    ensures leads { (blocks : List Listed) (s : table.State Atom) → IfOk result (λ n. Leads blocks (n - length results.old.items) (scalar_map frame.now (work_places_of frame.now function.now arguments.now) results.old.items ∷ s) (scalar_map frame.now (work_places_of frame.now function.now arguments.now) results.new.items ∷ s)) }
+    ensures none { IfOk result (λ n. n ≡ given → results.new.items ≡ results.old.items) }
+    ensures leads { (blocks : List Listed) (s : table.State Atom) → IfOk result (λ n. Leads blocks (n - given) (scalar_map frame.now (work_places_of frame.now function.now arguments.now) results.old.items ∷ s) (scalar_map frame.now (work_places_of frame.now function.now arguments.now) results.new.items ∷ s)) }
 {
-    let mut place = results.len();
+    let mut place = given;
     while place < end {
         match scalar_at(frame, count, function, arguments, place) {
             None => break,
@@ -168,30 +191,33 @@ fn are_scalars(cell: &Option<Vec<u32>>) -> bool
     }
 }
 
-// The same of the work of a map whose results are scalars, as far as there are any.
+// The same of the work of a map.
 fn push_places(
     frame: &[u32],
     count: usize,
     work: &Work,
+    given: usize,
     end: usize,
     results: &mut Vec<Value>,
 ) -> Result<usize, Memory>
     requires count_is { count ≡ product frame.now }
     requires fits { IsWork frame.now count work.now }
     requires forms { Forms frame.now }
-    requires begun { length results.old.items ≤ end }
+    requires given { length results.old.items ≡ given }
+    requires begun { given ≤ end }
     requires end { end ≤ count }
     ensures place { IfOk result (λ n. length results.new.items ≡ n) }
-    ensures least { IfOk result (λ n. length results.old.items ≤ n) }
+    ensures least { IfOk result (λ n. given ≤ n) }
     ensures most { IfOk result (λ n. n ≤ end) }
-    ensures none { IfOk result (λ n. n ≡ length results.old.items → results.new.items ≡ results.old.items) }
-    ensures leads { (blocks : List Listed) (s : table.State Atom) → IfOk result (λ n. Leads blocks (n - length results.old.items) (scalar_map frame.now (work_places frame.now work.now) results.old.items ∷ s) (scalar_map frame.now (work_places frame.now work.now) results.new.items ∷ s)) }
+    ensures none { IfOk result (λ n. n ≡ given → results.new.items ≡ results.old.items) }
+    ensures leads { (blocks : List Listed) (s : table.State Atom) → IfOk result (λ n. Leads blocks (n - given) (scalar_map frame.now (work_places frame.now work.now) results.old.items ∷ s) (scalar_map frame.now (work_places frame.now work.now) results.new.items ∷ s)) }
 {
     match work {
         Work::Apply(function, arguments) => {
-            push_scalars(frame, count, function, arguments.as_slice(), end, results)
+            let arguments = arguments.as_slice();
+            push_scalars(frame, count, function, arguments, given, end, results)
         }
-        Work::Types(_) | Work::Indices(..) | Work::Boxes { .. } => Ok(results.len()),
+        Work::Types(_) | Work::Indices(..) | Work::Boxes { .. } => Ok(given),
     }
 }
 
@@ -213,7 +239,7 @@ pub(crate) fn scalar_places(alloc: Global, map: Map, most: u64) -> Result<(Map, 
         mut results,
     } = map;
     let end = given + (count - given).min(most as usize);
-    let place = push_places(&frame, count, &work, end, &mut results)?;
+    let place = push_places(&frame, count, &work, given, end, &mut results)?;
     if place == given {
         return Ok((
             Map {

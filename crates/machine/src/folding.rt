@@ -1,31 +1,64 @@
 // Turns of a fold by a primitive of scalars over scalars, which need no array of their own.
-ghost use Rattle.std.specs.Prelude.{◌≡◌, ◌<◌, ◌≤◌, ◌-◌, ◌∷◌, List, Some, length, slice_get, get_or, drop, option_map, IfSome};
+ghost use Rattle.std.specs.Prelude.{◌≡◌, ◌<◌, ◌≤◌, ◌-◌, ◌∷◌, [], List, Some, length, slice_get, get_or, drop, option_map, IfSome};
 ghost use Rattle.core_syntax.specs.Arrays.{single};
 ghost use Rattle.array_values.specs.declared.value.Value.{Value as Atom};
 ghost use Rattle.machine_table.specs.declared.code.Block.{Block as Listed};
-ghost use Rattle.machine_table.specs.Begins.{Answers};
+ghost use Rattle.machine_table.specs.Begins.{Answers, apply_atom as applied_atom};
 ghost use Rattle.machine_table.specs.Machine as table;
 ghost use Rattle.machine.specs.Entered.{turn_entry};
 ghost use Rattle.machine.specs.Refines.{fold_from};
 ghost use Rattle.machine.specs.Scalars.{Leads, given_atom};
-ghost use Rattle.prim_kernels.specs.Deltas.{leading_cells};
+ghost use Rattle.machine_table.specs.ValueRules.{value_parts, value_rules};
+ghost use Rattle.array_values.specs.Lent.{value_of, IsLent};
+ghost use Rattle.prim_kernels.specs.Deltas.{leading_cells, scalar_entry};
 
 use crate::scalars::{Given, scalar_given};
 use crate::state::Fold;
 use array_values::{Array, Value, ValueRef};
-use prim_kernels::apply_two;
+use prim_kernels::{Scalar, apply_two};
+
+// A lent atom as a scalar, where it is one that primitives give.
+fn lent_scalar(atom: ValueRef<'_>) -> Option<Given>
+    ensures { IfSome result (λ g. value_of atom.entry ≡ given_atom g) }
+{
+    match atom {
+        ValueRef::Int(n) => Some(Given::Int(n)),
+        ValueRef::Bool(b) => Some(Given::Bool(b)),
+        ValueRef::Char(_) | ValueRef::Other(_) => None,
+    }
+}
 
 // The scalar that an array is, where it is one that primitives give.
 fn scalar_of(array: &Array) -> Option<Given>
     ensures { IfSome result (λ g. array.now ≡ single (given_atom g)) }
 {
-    if !array.dims().is_empty() {
+    let dims = array.dims();
+    if !dims.is_empty() {
         return None;
     }
-    match array.atom_at(0) {
-        ValueRef::Int(n) => Some(Given::Int(n)),
-        ValueRef::Bool(b) => Some(Given::Bool(b)),
-        ValueRef::Char(_) | ValueRef::Other(_) => None,
+    lent_scalar(array.atom_at(0))
+}
+
+// An atom, which is a primitive of scalars, on two scalars.
+fn on_two(function: &Value, x: ValueRef<'_>, y: ValueRef<'_>) -> Option<Scalar>
+    requires left { IsLent x }
+    requires right { IsLent y }
+    ensures { IfSome result (λ s. scalar_entry s ≡ applied_atom value_rules (value_parts function.now) (single (value_of x.entry) ∷ single (value_of y.entry) ∷ [])) }
+{
+    match function {
+        Value::Prim(prim) => apply_two(prim.get(), x, y),
+        _ => None,
+    }
+}
+
+// The same of a scalar that a primitive gave, and another one.
+fn on_given(function: &Value, x: Given, y: ValueRef<'_>) -> Option<Scalar>
+    requires { IsLent y }
+    ensures { IfSome result (λ s. scalar_entry s ≡ applied_atom value_rules (value_parts function.now) (single (given_atom x) ∷ single (value_of y.entry) ∷ [])) }
+{
+    match x {
+        Given::Int(n) => on_two(function, ValueRef::Int(n), y),
+        Given::Bool(b) => on_two(function, ValueRef::Bool(b), y),
     }
 }
 
@@ -35,17 +68,9 @@ fn turn(function: &Value, accumulator: Given, items: &Array, place: usize) -> Op
     requires place { place < get_or items.now.dims 0 0 }
     ensures { IfSome result (λ g. option_map (turn_entry function.now (single (given_atom accumulator))) (slice_get (leading_cells items.now.dims items.now.atoms) place) ≡ Some (Answers (single (given_atom g)))) }
 {
-    match function {
-        Value::Prim(prim) => {
-            let _dims = items.dims();
-            let item = items.atom_at(place);
-            scalar_given(match accumulator {
-                Given::Int(n) => apply_two(prim.get(), ValueRef::Int(n), item),
-                Given::Bool(b) => apply_two(prim.get(), ValueRef::Bool(b), item),
-            })
-        }
-        _ => None,
-    }
+    let _dims = items.dims();
+    let item = items.atom_at(place);
+    scalar_given(on_given(function, accumulator, item))
 }
 
 // The accumulator after as many turns as give a scalar at once, from one place to another at most, and the place of the
