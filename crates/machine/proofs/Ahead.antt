@@ -1,8 +1,8 @@
 -- Several steps at once: places of a map and turns of a fold that give scalars.
-use Rattle.std.proofs.Common.{◌≡◌, ℕ, zero, suc, ◌+◌, ◌*◌, ◌-◌, ◌<◌, ◌≤◌, refl, ap, sym, subst, ◌∙◌, List, [], ◌∷◌, ◌++◌, length, drop, get_or, Bool, true, false, nat_lt, Option, Some, None, is_some, slice_get, arith, length-append, IfSome}
+use Rattle.std.proofs.Common.{◌≡◌, ℕ, zero, suc, ◌+◌, ◌*◌, ◌-◌, ◌<◌, ◌≤◌, refl, ap, sym, subst, ◌∙◌, List, [], ◌∷◌, ◌++◌, length, take, drop, get_or, Bool, eqb, true, false, nat_lt, Option, Some, None, is_some, slice_get, arith, length-append, IfSome}
 use Rattle.std.specs.Option.{option_map}
 use Rattle.std.specs.List.{All}
-use Rattle.std.proofs.lemmas.Bool.{lt-ltb}
+use Rattle.std.proofs.lemmas.Bool.{lt-ltb, eqb-true}
 use Rattle.std.proofs.lemmas.List.{append-nil, drop_all}
 use Rattle.std.proofs.lemmas.List.Elements.{All-nil, All-cons, All-head}
 use Rattle.std.proofs.lemmas.Option.{none-some}
@@ -100,6 +100,14 @@ module _ (a : Array) (whole : IsArray a) (none : a.dims ≡ []) where
   array_given None x is at = tt
   array_given (Some g) x is at = is_single x at ∙ ap single is
 
+-- no dims are in a slice that is empty
+pub empty_dims : (seen dims : List ℕ) → seen ≡ dims → true ≡ eqb (length seen) 0 → dims ≡ []
+empty_dims seen dims same e = sym same ∙ none seen (eqb-true (length seen) 0 (sym e))
+  where
+    none : (xs : List ℕ) → length xs ≡ 0 → xs ≡ []
+    none [] e = refl
+    none (x ∷ xs) e = absurd (omega (arith, e))
+
 -- ---- what a place and a turn give
 
 module _ (o : Option Given) (given : Option Scalar) (is : IfSome o (λ g. option_map scalar_entry given ≡ Some (Answers (single (given_atom g))))) (x : Value) (cs : List Array)
@@ -148,6 +156,20 @@ module _ (a : Array) (rank : length a.dims ≡ 1) (place : ℕ) where
       leading_at a place (omega (arith, rank)) lt
       ∙ ap (λ (y : Array). Some y) (cell_is_single a (length a.dims - 1) place place x (omega (arith, rank)) refl at)
 
+-- a fold over a vector
+pub lead_count : (dims : List ℕ) (count : ℕ) → take 1 dims ≡ count ∷ [] → get_or dims 0 0 ≡ count
+lead_count [] count e = absurd (no e)
+  where
+    no : ◌≡◌ {A = List ℕ} [] (count ∷ []) → ⊥
+    no e = cc
+lead_count (d ∷ ds) count e = first d count e
+  where
+    first : (a b : ℕ) → ◌≡◌ {A = List ℕ} (a ∷ []) (b ∷ []) → a ≡ b
+    first a b e = cc
+
+pub folds_from : (blocks : List Block) (f : Value) (acc : Array) (y : Value) (cells : List Array) (s t : table.State Value) (n : ℕ) → acc ≡ single y → Leads blocks n (Folding f (single y) cells ∷ s) t → Leads blocks n (Folding f acc cells ∷ s) t
+folds_from blocks f acc y cells s t n is e = ap (λ (a : Array). table.from value_rules blocks n (Goes (Folding f a cells ∷ s))) is ∙ e
+
 -- no step
 pub stays : (blocks : List Block) (n : ℕ) (s : table.State Value) → n ≡ 0 → Leads blocks n s s
 stays blocks n s e = ap (λ (k : ℕ). table.from value_rules blocks k (Goes s)) e
@@ -186,6 +208,9 @@ module _ {V : Type 0} (items : V → List ℕ) where
   as_scalars F ps g cell xs alike begun full =
       let count = scalar_count g cell xs alike begun full in
       λ i. Mapping F (scalar_results g cell xs alike count full i) (drop (sym count i) ps)
+
+  pub scalar_full : (g : ℕ) (w : V) (xs : List Value) → length xs ≡ g → items w ≡ [] → length xs ≡ g * product (items w)
+  scalar_full g w xs count none = let one : g ≡ g * 1 = omega arith in count ∙ one ∙ ap (λ ds. g * product ds) (sym none)
 
   -- cells without dims
   pub no_dims : (w : V) → items w ≡ [] → All (λ ds. ds ≡ []) (result_dims items (Some w))
