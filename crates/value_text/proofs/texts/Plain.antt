@@ -23,6 +23,7 @@ use Rattle.core_syntax.specs.Terms.{IndexValue, DimValue, ShapeValue}
 use Rattle.core_syntax.specs.Word.{Word}
 use Rattle.machine_table.specs.CodeBounds.{IsAround, IsParam}
 use Rattle.machine_table.specs.Codes.{Boxes, Param}
+use Rattle.machine_table.specs.IndexBounds.{under}
 use Rattle.machine_table.specs.ParamTypes.{type_in, type_of}
 use Rattle.sexp_reader.specs.declared.pieces.Leaf.TheVariants as leaf
 use Rattle.sexp_reader.specs.Bytes.{is_graphic, is_hex}
@@ -82,7 +83,7 @@ module _ (b : Base) (w : Word) where
     box_plain x xs vs depth binders (DataBox ws c) i h =
         let n = sorts_length x.sorts ws h.0 in
         let some = i.0.some in
-        (omega (arith, n, some), h.1, fits_plain xs (onto ws vs) depth _ c i.1 h.2)
+        (omega (arith, n, some), h.1, fits_plain xs (onto ws vs) depth (under x.sorts binders) c i.1 h.2)
     box_plain x xs vs depth binders _ i h = absurd h
 
 param_plain : (p : Param) (d : Data) → IsParam p → FitsIn [] (type_of p) d → IsPlain d
@@ -123,13 +124,22 @@ hex_ascii [] h = IsAscii-nil
 hex_ascii (c ∷ cs) h = IsAscii-cons c cs (hex_low c h.0) (hex_ascii cs h.1)
 
 char_ascii : (c : ℕ) (w : List ℕ) → Spells (leaf.Char c) w → IsAscii w
-char_ascii c w (inl h) = subst IsAscii (sym h.1) (IsAscii-cons 35 _ (omega arith) (IsAscii-cons 92 _ (omega arith) (IsAscii-cons c [] (graphic_low c h.0) IsAscii-nil)))
+char_ascii c w (inl h) = subst IsAscii (sym h.1) (IsAscii-cons 35 (92 ∷ c ∷ []) (omega arith) (IsAscii-cons 92 (c ∷ []) (omega arith) (IsAscii-cons c [] (graphic_low c h.0) IsAscii-nil)))
 char_ascii c w (inr h) =
-    subst IsAscii (sym h.spelled) (IsAscii-cons 35 _ (omega arith) (IsAscii-cons 92 _ (omega arith) (IsAscii-cons 117 _ (omega arith) (hex_ascii (h.first ∷ h.digits) h.each))))
+    subst IsAscii (sym h.spelled) (IsAscii-cons 35 (92 ∷ 117 ∷ h.first ∷ h.digits) (omega arith)
+    (IsAscii-cons 92 (117 ∷ h.first ∷ h.digits) (omega arith) (IsAscii-cons 117 (h.first ∷ h.digits) (omega arith) (hex_ascii (h.first ∷ h.digits) h.each))))
+
+-- a word whose bytes are ASCII, and one with a byte
+ascii_word : (w : List ℕ) → AllBytes (λ c. nat_lt c 128) w → IsAscii w
+ascii_word [] h = IsAscii-nil
+ascii_word (c ∷ cs) h = IsAscii-cons c cs (ltb-true c 128 h.0) (ascii_word cs h.1)
+
+nonempty : (c : ℕ) (cs : List ℕ) → 0 < length (c ∷ cs)
+nonempty c cs = omega arith
 
 truth_spelled : (b : Bool) → IsSpelled (Atom no_span (leaf.Bool b))
-truth_spelled true = (refl, IsAscii-cons 35 _ (omega arith) (IsAscii-cons 116 _ (omega arith) IsAscii-nil))
-truth_spelled false = (refl, IsAscii-cons 35 _ (omega arith) (IsAscii-cons 102 _ (omega arith) IsAscii-nil))
+truth_spelled true = (refl, ascii_word (codes "#t") (refl, refl, tt))
+truth_spelled false = (refl, ascii_word (codes "#f") (refl, refl, tt))
 
 size_of : (z : ℤ) → IsTrue (is_int z) → mag z < 2 ^ 63
 size_of (pos n) h = ltb-true n (2 ^ 63) h
@@ -148,18 +158,14 @@ numbers_spelled : (ns : List ℕ) → all_below (2 ^ 32) ns ≡ true → AreSpel
 numbers_spelled [] h = tt
 numbers_spelled (n ∷ ns) h = let a = and_parts (nat_lt n (2 ^ 32)) (all_below (2 ^ 32) ns) h in (number_spelled n a.0, numbers_spelled ns a.1)
 
-ascii_word : (w : List ℕ) → AllBytes (λ c. nat_lt c 128) w → IsAscii w
-ascii_word [] h = IsAscii-nil
-ascii_word (c ∷ cs) h = IsAscii-cons c cs (ltb-true c 128 h.0) (ascii_word cs h.1)
-
 array_spelled : IsSpelled (shown_word (codes "array"))
-array_spelled = (((refl, refl, refl, refl, refl, tt), omega arith, refl, refl), ascii_word (codes "array") (refl, refl, refl, refl, refl, tt))
+array_spelled = (((refl, refl, refl, refl, refl, tt), nonempty 97 (codes "rray"), refl, refl), ascii_word (codes "array") (refl, refl, refl, refl, refl, tt))
 
 shape_spelled : IsSpelled (shown_word (codes "shape"))
-shape_spelled = (((refl, refl, refl, refl, refl, tt), omega arith, refl, refl), ascii_word (codes "shape") (refl, refl, refl, refl, refl, tt))
+shape_spelled = (((refl, refl, refl, refl, refl, tt), nonempty 115 (codes "hape"), refl, refl), ascii_word (codes "shape") (refl, refl, refl, refl, refl, tt))
 
 box_spelled : IsSpelled (shown_word (codes "box"))
-box_spelled = (((refl, refl, refl, tt), omega arith, refl, refl), ascii_word (codes "box") (refl, refl, refl, tt))
+box_spelled = (((refl, refl, refl, tt), nonempty 98 (codes "ox"), refl, refl), ascii_word (codes "box") (refl, refl, refl, tt))
 
 index_spelled : (v : IndexValue) → value_fits v ≡ true → IsSpelled (shown_index v)
 index_spelled (DimValue n) h = number_spelled n h

@@ -73,7 +73,7 @@ mutual
 mutual
   ascii_form : (f : Form) (ps : List Part) → IsSpelled f → IsAscii (text_of ps) → IsAscii (text_of (form_parts f ps))
   ascii_form (Atom at l) ps h s = IsAscii-append (leaf_text l) (text_of ps) h.1 s
-  ascii_form (Group at fs) ps h s = IsAscii-cons 40 _ (omega arith) (ascii_items fs (Closing ∷ ps) h (IsAscii-cons 41 _ (omega arith) s))
+  ascii_form (Group at fs) ps h s = IsAscii-cons 40 (text_of (items_parts fs (Closing ∷ ps))) (omega arith) (ascii_items fs (Closing ∷ ps) h (IsAscii-cons 41 (text_of ps) (omega arith) s))
 
   ascii_items : (fs : Forms) (ps : List Part) → AreSpelled fs → IsAscii (text_of ps) → IsAscii (text_of (items_parts fs ps))
   ascii_items no_forms ps h s = s
@@ -81,7 +81,7 @@ mutual
 
   ascii_rest : (fs : Forms) (ps : List Part) → AreSpelled fs → IsAscii (text_of ps) → IsAscii (text_of (rest_parts fs ps))
   ascii_rest no_forms ps h s = s
-  ascii_rest (more_forms f fs) ps h s = IsAscii-cons 32 _ (omega arith) (ascii_form f (rest_parts fs ps) h.0 (ascii_rest fs ps h.1 s))
+  ascii_rest (more_forms f fs) ps h s = IsAscii-cons 32 (text_of (form_parts f (rest_parts fs ps))) (omega arith) (ascii_form f (rest_parts fs ps) h.0 (ascii_rest fs ps h.1 s))
 
 -- ---- places
 
@@ -163,21 +163,17 @@ mutual
 
 -- ---- forms that are printed are read
 
-module _ (fs : Forms) (spelled : AreSpelled fs) (nested : forms_nesting fs ≤ 256) where
-  pub printed : Forms
-  printed = placed_items start fs
+pub printed_bare : (fs : Forms) → bares (placed_items start fs) ≡ bares fs
+printed_bare fs = items_bare fs start
 
-  pub printed_bare : bares (placed_items start fs) ≡ bares fs
-  printed_bare = items_bare fs start
-
-  pub printed_reads : Reads (text_of (items_parts fs [])) (placed_items start fs)
-  printed_reads =
-      (reads_is_grammar (text_of (items_parts fs [])) (placed_items start fs)).1
-      (record {
-        utf8 = IsUtf8-from_ascii (text_of (items_parts fs [])) (ascii_items fs [] spelled IsAscii-nil);
-        parts = items_parts fs [];
-        split = split_items fs [] spelled refl tt;
-        text = refl;
-        tokens = items_tokens fs start [] ∙ append-nil (forms_marks (placed_items start fs));
-        nested = let e = items_nest fs start in omega (arith, e, nested);
-      })
+pub printed_reads : (fs : Forms) → AreSpelled fs → forms_nesting fs ≤ 256 → Reads (text_of (items_parts fs [])) (placed_items start fs)
+printed_reads fs spelled nested =
+    (reads_is_grammar (text_of (items_parts fs [])) (placed_items start fs)).1
+    (record {
+      utf8 = IsUtf8-from_ascii (text_of (items_parts fs [])) (ascii_items fs [] spelled IsAscii-nil);
+      parts = items_parts fs [];
+      split = split_items fs [] spelled refl tt;
+      text = refl;
+      tokens = items_tokens fs start [] ∙ append-nil (forms_marks (placed_items start fs));
+      nested = let e = items_nest fs start in omega (arith, e, nested);
+    })
