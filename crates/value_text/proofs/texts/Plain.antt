@@ -138,8 +138,8 @@ nonempty : (c : ℕ) (cs : List ℕ) → 0 < length (c ∷ cs)
 nonempty c cs = omega arith
 
 truth_spelled : (b : Bool) → IsSpelled (Atom no_span (leaf.Bool b))
-truth_spelled true = (refl, ascii_word (codes "#t") (refl, refl, tt))
-truth_spelled false = (refl, ascii_word (codes "#f") (refl, refl, tt))
+truth_spelled true = (refl, ascii_word (codes "#t") (refl, (refl, tt)))
+truth_spelled false = (refl, ascii_word (codes "#f") (refl, (refl, tt)))
 
 size_of : (z : ℤ) → IsTrue (is_int z) → mag z < 2 ^ 63
 size_of (pos n) h = ltb-true n (2 ^ 63) h
@@ -159,13 +159,13 @@ numbers_spelled [] h = tt
 numbers_spelled (n ∷ ns) h = let a = and_parts (nat_lt n (2 ^ 32)) (all_below (2 ^ 32) ns) h in (number_spelled n a.0, numbers_spelled ns a.1)
 
 array_spelled : IsSpelled (shown_word (codes "array"))
-array_spelled = (((refl, refl, refl, refl, refl, tt), nonempty 97 (codes "rray"), refl, refl), ascii_word (codes "array") (refl, refl, refl, refl, refl, tt))
+array_spelled = (((refl, (refl, (refl, (refl, (refl, tt))))), nonempty 97 (codes "rray"), refl, refl), ascii_word (codes "array") (refl, (refl, (refl, (refl, (refl, tt))))))
 
 shape_spelled : IsSpelled (shown_word (codes "shape"))
-shape_spelled = (((refl, refl, refl, refl, refl, tt), nonempty 115 (codes "hape"), refl, refl), ascii_word (codes "shape") (refl, refl, refl, refl, refl, tt))
+shape_spelled = (((refl, (refl, (refl, (refl, (refl, tt))))), nonempty 115 (codes "hape"), refl, refl), ascii_word (codes "shape") (refl, (refl, (refl, (refl, (refl, tt))))))
 
 box_spelled : IsSpelled (shown_word (codes "box"))
-box_spelled = (((refl, refl, refl, tt), nonempty 98 (codes "ox"), refl, refl), ascii_word (codes "box") (refl, refl, refl, tt))
+box_spelled = (((refl, (refl, (refl, tt))), nonempty 98 (codes "ox"), refl, refl), ascii_word (codes "box") (refl, (refl, (refl, tt))))
 
 index_spelled : (v : IndexValue) → value_fits v ≡ true → IsSpelled (shown_index v)
 index_spelled (DimValue n) h = number_spelled n h
@@ -177,7 +177,7 @@ parts_spelled (v ∷ vs) f h s = let a = and_parts (value_fits v) (all_fit vs) h
 
 mutual
   pub plain_spelled : (d : Data) → IsPlain d → IsSpelled (shown_value d)
-  plain_spelled (DataArray dims xs) h = (array_spelled, numbers_spelled dims h.0, atoms_spelled xs h.1)
+  plain_spelled (DataArray dims xs) h = (array_spelled, (numbers_spelled dims h.0, atoms_spelled xs h.1))
 
   atom_spelled : (a : DataAtom) → IsPlainAtom a → IsSpelled (shown_atom a)
   atom_spelled (DataInt z) h = int_spelled z h

@@ -6,12 +6,13 @@ use Rattle.core_syntax.specs.Data.{Data, DataArray, DataAtom, DataInt, DataBool,
 use Rattle.core_syntax.specs.Lists.{each}
 use Rattle.core_syntax.specs.Syntax.{no_span}
 use Rattle.core_syntax.specs.Terms.{IndexValue, DimValue, ShapeValue}
+use Rattle.sexp_reader.specs.declared.pieces.Leaf.TheVariants as leaf
 use Rattle.sexp_reader.specs.Forms.{Form, Atom, Group, Forms, no_forms, more_forms}
 use Rattle.sexp_reader.specs.Split.{Part, Closing, text_of}
 use Rattle.array_values.specs.Data.{array_data}
 use Rattle.array_values.specs.Values.{Array}
 use Rattle.value_text.specs.ReadBack.{array_texts}
-use Rattle.value_text.specs.Shown.{shown_numbers, shown_index, shown_parts, shown_value, shown_values, shown_atom, shown_atoms}
+use Rattle.value_text.specs.Shown.{shown_word, shown_numbers, shown_index, shown_parts, shown_value, shown_values, shown_atom, shown_atoms}
 use Rattle.value_text.proofs.texts.Said.{bare, bares}
 use Rattle.value_text.specs.ValueText.{dims_text, front_text, spaced, array_text}
 use Rattle.value_text.proofs.DataTexts.{value_text, data_atom_text, data_atoms_text, data_text, text_of_data}
@@ -45,25 +46,24 @@ parts_shown (v ∷ vs) c ps =
 
 -- ---- values and atoms
 
-module _ (dims atoms rest : List ℕ) where
-  -- an array up to its atoms, before others
-  front_then : (codes "(array (" ++ dims ++ codes ")") ++ rest ≡ codes "(array (" ++ (dims ++ 41 ∷ rest)
-  front_then = ap (λ t. codes "(array (" ++ t) (append_assoc dims (codes ")") rest)
+-- texts before others
+front_then : (dims rest : List ℕ) → front_text dims ++ rest ≡ codes "(array (" ++ (dims_text dims ++ 41 ∷ rest)
+front_then dims rest = ap (λ t. codes "(array (" ++ t) (append_assoc (dims_text dims) (codes ")") rest)
 
-  atoms_then : (atoms ++ codes ")") ++ rest ≡ atoms ++ 41 ∷ rest
-  atoms_then = append_assoc atoms (codes ")") rest
+value_then : (front atoms rest : List ℕ) → ((front ++ atoms) ++ codes ")") ++ rest ≡ front ++ (atoms ++ 41 ∷ rest)
+value_then front atoms rest = append_assoc (front ++ atoms) (codes ")") rest ∙ append_assoc front atoms (41 ∷ rest)
 
-  box_end : (atoms ++ codes "))") ++ rest ≡ atoms ++ 41 ∷ 41 ∷ rest
-  box_end = append_assoc atoms (codes "))") rest
+box_then : (values front atoms rest : List ℕ) → ((codes "(box" ++ (values ++ 32 ∷ front)) ++ (atoms ++ codes "))")) ++ rest ≡ codes "(box" ++ (values ++ 32 ∷ (front ++ (atoms ++ 41 ∷ 41 ∷ rest)))
+box_then values front atoms rest =
+    append_assoc (codes "(box" ++ (values ++ 32 ∷ front)) (atoms ++ codes "))") rest
+    ∙ ap (λ t. (codes "(box" ++ (values ++ 32 ∷ front)) ++ t) (append_assoc atoms (codes "))") rest)
+    ∙ ap (λ t. codes "(box" ++ t) (append_assoc values (32 ∷ front) (atoms ++ 41 ∷ 41 ∷ rest))
 
 mutual
   value_shown : (d : Data) (ps : List Part) → text_of (form_parts (shown_value d) ps) ≡ data_text d ++ text_of ps
   value_shown (DataArray dims xs) ps =
-      let rest = data_atoms_text xs ++ 41 ∷ text_of ps in
       ap (λ t. codes "(array (" ++ t) (dims_shown dims (Closing ∷ rest_parts (shown_atoms xs) (Closing ∷ ps)) ∙ ap (λ t. dims_text dims ++ 41 ∷ t) (atoms_shown xs (Closing ∷ ps)))
-      ∙ sym (append_assoc (front_text dims) (data_atoms_text xs ++ codes ")") (text_of ps)
-      ∙ ap (λ t. front_text dims ++ t) (atoms_then dims (data_atoms_text xs) (text_of ps))
-      ∙ front_then (dims_text dims) [] rest)
+      ∙ sym (value_then (front_text dims) (data_atoms_text xs) (text_of ps) ∙ front_then dims (data_atoms_text xs ++ 41 ∷ text_of ps))
 
   atom_shown : (a : DataAtom) (ps : List Part) → text_of (form_parts (shown_atom a) ps) ≡ data_atom_text a ++ text_of ps
   atom_shown (DataInt z) ps = refl
@@ -71,16 +71,9 @@ mutual
   atom_shown (DataChar c) ps = refl
   atom_shown DataFn ps = refl
   atom_shown (DataBox vs (DataArray dims xs)) ps =
-      let front = front_text dims in
-      let rest = data_atoms_text xs ++ 41 ∷ 41 ∷ text_of ps in
       ap (λ t. codes "(box" ++ t) (parts_shown vs (shown_value (DataArray dims xs)) (Closing ∷ ps)
-      ∙ ap (λ t. values_text vs ++ 32 ∷ t)
-      (value_shown (DataArray dims xs) (Closing ∷ ps)
-      ∙ append_assoc front (data_atoms_text xs ++ codes ")") (41 ∷ text_of ps)
-      ∙ ap (λ t. front ++ t) (atoms_then dims (data_atoms_text xs) (41 ∷ text_of ps))))
-      ∙ sym (append_assoc (codes "(box" ++ values_text vs ++ 32 ∷ front) (data_atoms_text xs ++ codes "))") (text_of ps)
-      ∙ ap (λ t. (codes "(box" ++ values_text vs ++ 32 ∷ front) ++ t) (box_end dims (data_atoms_text xs) (text_of ps))
-      ∙ ap (λ t. codes "(box" ++ t) (append_assoc (values_text vs) (32 ∷ front) rest))
+      ∙ ap (λ t. values_text vs ++ 32 ∷ t) (value_shown (DataArray dims xs) (Closing ∷ ps) ∙ value_then (front_text dims) (data_atoms_text xs) (41 ∷ text_of ps)))
+      ∙ sym (box_then (values_text vs) (front_text dims) (data_atoms_text xs) (text_of ps))
 
   atoms_shown : (xs : DataAtoms) (ps : List Part) → text_of (rest_parts (shown_atoms xs) ps) ≡ data_atoms_text xs ++ text_of ps
   atoms_shown no_data ps = refl
@@ -103,11 +96,11 @@ texts_shown (a ∷ as') = value_shown (array_data a) (rest_parts (shown_values (
 
 numbers_bare : (ns : List ℕ) → bares (shown_numbers ns) ≡ shown_numbers ns
 numbers_bare [] = refl
-numbers_bare (n ∷ ns) = ap (more_forms (Atom no_span _)) (numbers_bare ns)
+numbers_bare (n ∷ ns) = ap (more_forms (Atom no_span (leaf.Int (pos n)))) (numbers_bare ns)
 
 index_bare : (v : IndexValue) → bare (shown_index v) ≡ shown_index v
 index_bare (DimValue n) = refl
-index_bare (ShapeValue ns) = ap (λ fs. Group no_span (more_forms (Atom no_span _) fs)) (numbers_bare ns)
+index_bare (ShapeValue ns) = ap (λ fs. Group no_span (more_forms (shown_word (codes "shape")) fs)) (numbers_bare ns)
 
 parts_bare : (vs : List IndexValue) (c : Form) → bare c ≡ c → bares (shown_parts vs c) ≡ shown_parts vs c
 parts_bare [] c e = ap (λ f. more_forms f no_forms) e
@@ -115,13 +108,13 @@ parts_bare (v ∷ vs) c e = λ i. more_forms (index_bare v i) (parts_bare vs c e
 
 mutual
   pub value_bare : (d : Data) → bare (shown_value d) ≡ shown_value d
-  value_bare (DataArray dims xs) = λ i. Group no_span (more_forms (Atom no_span _) (more_forms (Group no_span (numbers_bare dims i)) (atoms_bare xs i)))
+  value_bare (DataArray dims xs) = λ i. Group no_span (more_forms (shown_word (codes "array")) (more_forms (Group no_span (numbers_bare dims i)) (atoms_bare xs i)))
 
   atom_bare : (a : DataAtom) → bare (shown_atom a) ≡ shown_atom a
   atom_bare (DataInt z) = refl
   atom_bare (DataBool b) = refl
   atom_bare (DataChar c) = refl
-  atom_bare (DataBox vs c) = ap (λ fs. Group no_span (more_forms (Atom no_span _) fs)) (parts_bare vs (shown_value c) (value_bare c))
+  atom_bare (DataBox vs c) = ap (λ fs. Group no_span (more_forms (shown_word (codes "box")) fs)) (parts_bare vs (shown_value c) (value_bare c))
   atom_bare DataFn = refl
 
   atoms_bare : (xs : DataAtoms) → bares (shown_atoms xs) ≡ shown_atoms xs
