@@ -88,7 +88,7 @@ measure() {
         'BEGIN { printf "%.2f %.2f\n", (t - t0) / n, (m - m0) / n }'
 }
 
-"$remora" run "$top/examples/add.remora" >/dev/null
+"$remora" --prove >/dev/null
 
 printf 'remora-code 1\nparams 0\nblocks 1\nblock 1\nconst () 1\n' >"$work/small"
 start=$(least $((runs * 10)) read_code "$work/small")

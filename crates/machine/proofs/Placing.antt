@@ -1,6 +1,5 @@
 -- Items of a list that are changed one after another.
-use Rattle.std.proofs.Common.{◌≡◌, ℕ, suc, ◌+◌, ◌<◌, ◌≤◌, refl, ap, sym, ◌∙◌, arith, List, [], ◌∷◌, ◌++◌, length, get_or, take, drop, set, drop-cons}
-use Rattle.std.specs.List.{All}
+use Rattle.std.proofs.Common.{◌≡◌, ℕ, ◌+◌, ◌<◌, ◌≤◌, ap, sym, ◌∙◌, arith, List, [], ◌∷◌, ◌++◌, length, get_or, take, drop, set, drop-cons}
 use Rattle.std.proofs.lemmas.List.{take_all, take_more, take_more_set, drop-set-lt}
 use Rattle.core_syntax.specs.Lists.{each}
 use Rattle.machine.proofs.Results.{each_append}

@@ -1,17 +1,16 @@
 -- Arguments over the frame of an application.
-use Rattle.std.proofs.Common.{◌≡◌, ℕ, zero, suc, ◌+◌, ◌*◌, ◌/◌, ◌<◌, ◌≤◌, ◌^◌, ◌&&◌, ◌==◌, nat_lt, min, refl, ap, sym, subst, ◌∙◌, arith, Bool, true, false, List, [], ◌∷◌, ◌++◌, length, take, drop, eqb}
+use Rattle.std.proofs.Common.{◌≡◌, ℕ, zero, suc, ◌+◌, ◌*◌, ◌/◌, ◌<◌, ◌≤◌, ◌^◌, nat_lt, min, refl, ap, sym, subst, ◌∙◌, arith, Bool, true, false, List, [], ◌∷◌, ◌++◌, length, take, drop, eqb}
 use Rattle.std.specs.List.{All}
 use Rattle.std.proofs.lemmas.Bool.{lt-ltb, le-ltb, ne_eqb, eq-eqb}
 use Rattle.std.proofs.lemmas.List.Elements.{All-nil, All-cons, All-head, All-tail}
 use Rattle.std.proofs.lemmas.List.{take-append-le, take_all}
 use Rattle.std.proofs.Math.Nat.{mul_comm, mul-div_cancel_left}
-use Rattle.core_syntax.specs.Arrays.{Arrayed, array, is_prefix, all_prefixes, columns}
+use Rattle.core_syntax.specs.Arrays.{is_prefix, all_prefixes, columns}
 use Rattle.core_syntax.specs.Lists.{each, product}
 use Rattle.core_syntax.specs.Word.{Word}
 use Rattle.core_syntax.specs.Terms.{IndexValue}
 use Rattle.core_syntax.specs.declared.errors.TrapKind.TheVariants as trap
 use Rattle.array_values.specs.Forms.{Forms, cells}
-use Rattle.array_values.specs.Values.{Array}
 use Rattle.array_values.specs.declared.value.Value.{Value}
 use Rattle.machine_table.specs.Begins.{Place}
 use Rattle.machine_table.specs.Instructions.{Begun, Halts, Maps, no_cell, app_over, places}

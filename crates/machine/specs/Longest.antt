@@ -1,5 +1,5 @@
 -- The longest of frames.
-use Rattle.std.specs.Prelude.{ℕ, Bool, true, false, nat_lt, List, [], ◌∷◌, length}
+use Rattle.std.specs.Prelude.{ℕ, true, false, nat_lt, List, [], ◌∷◌, length}
 
 -- the longer of two frames, the first where they are alike
 abbrev pub longer : List ℕ → List ℕ → List ℕ

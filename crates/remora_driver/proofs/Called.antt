@@ -1,11 +1,12 @@
 -- What calls answer, from what is due.
-use Rattle.std.proofs.Common.{◌≡◌, refl, sym, ap, ◌∙◌, subst, ℕ, ◌<◌, arith, List, [], length, Option, Some, None, Result, Ok, Err}
-use Rattle.std.specs.Prelude.{IfOk, ⊤}
+use Rattle.std.proofs.Common.{rules, ◌≡◌, refl, sym, ◌∙◌, subst, ℕ, arith, List, [], Some, Result, Ok, Err}
+use Rattle.std.specs.Prelude.{IfOk}
 use Rattle.std.proofs.lemmas.Option.{none-some}
 use Rattle.core_syntax.specs.declared.span.Span.{Span}
 use Rattle.core_syntax.proofs.Unique.{some_is}
-use Rattle.sexp_reader.specs.Forms.{Form, Forms, no_forms, more_forms}
-use Rattle.sexp_reader.specs.Reads.{Reads, read_blame}
+use Rattle.sexp_reader.specs.Forms.{no_forms, more_forms}
+use Rattle.sexp_reader.specs.Reads.{Reads}
+use Rattle.sexp_reader.specs.Tokens.{tokens_from}
 use Rattle.sexp_reader.proofs.Leftmost.{reads_one_way, reads_or_is_refused}
 use Rattle.remora_driver.specs.declared.answer.Answer.{Answer as Given}
 use Rattle.remora_driver.specs.declared.answer.Answer.TheVariants as given
@@ -19,6 +20,7 @@ use Rattle.remora_driver.specs.Sources.{seen}
 
 -- the empty text reads as no forms
 nothing_reads : Reads [] no_forms
+unfolding tokens_from
 nothing_reads = record { utf8 = search rules; tokens = refl; nested = omega arith }
 
 -- it isn't refused
@@ -38,7 +40,7 @@ due_told IsDue a (given.Text text) due h = (a, due, h)
 due_told IsDue a (given.Trap kind) due h = (a, due, h)
 due_told IsDue a (given.Refused number at) due h = (a, due, h)
 due_told IsDue a (given.DataRefused number at) due h = (a, due, h)
-due_told IsDue a (given.Stuck kind) due h = (a, due, h)
+due_told IsDue a (given.Stuck _) due h = (a, due, h)
 due_told IsDue a given.StillRunning due h = (a, due, h)
 due_told IsDue a given.Memory due h = tt
 
@@ -48,7 +50,7 @@ called IsDue T bytes (given.Text text) none h = (none, subst IsDue (sym (some_is
 called IsDue T bytes (given.Trap kind) none h = (none, subst IsDue (sym (some_is _ _ h.2)) h.1)
 called IsDue T bytes (given.Refused number at) none h = subst IsDue (sym (some_is _ _ h.2)) h.1
 called IsDue T bytes (given.DataRefused number at) none h = absurd (none-some h.0 h.2)
-called IsDue T bytes (given.Stuck kind) none h = (none, subst IsDue (sym (some_is _ _ h.2)) h.1)
+called IsDue T bytes (given.Stuck _) none h = (none, subst IsDue (sym (some_is _ _ h.2)) h.1)
 called IsDue T bytes given.StillRunning none h = (none, subst IsDue (sym (some_is _ _ h.2)) h.1)
 called IsDue T bytes given.Memory none h = tt
 
@@ -68,7 +70,7 @@ takes_data IsDue T (given.Text text) h = tt
 takes_data IsDue T (given.Trap kind) h = tt
 takes_data IsDue T (given.Refused number at) h = tt
 takes_data IsDue T (given.DataRefused number at) h = no_surplus number at h.1
-takes_data IsDue T (given.Stuck kind) h = tt
+takes_data IsDue T (given.Stuck _) h = tt
 takes_data IsDue T given.StillRunning h = tt
 takes_data IsDue T given.Memory h = tt
 
@@ -78,7 +80,7 @@ reply_due IsDue T (given.Text text) a h e = subst IsDue (some_is _ _ e) h.1
 reply_due IsDue T (given.Trap kind) a h e = subst IsDue (some_is _ _ e) h.1
 reply_due IsDue T (given.Refused number at) a h e = subst IsDue (some_is _ _ e) h
 reply_due IsDue T (given.DataRefused number at) a h e = absurd (none-some a e)
-reply_due IsDue T (given.Stuck kind) a h e = subst IsDue (some_is _ _ e) h.1
+reply_due IsDue T (given.Stuck _) a h e = subst IsDue (some_is _ _ e) h.1
 reply_due IsDue T given.StillRunning a h e = subst IsDue (some_is _ _ e) h.1
 reply_due IsDue T given.Memory a h e = absurd (none-some a e)
 

@@ -5,13 +5,10 @@ use Rattle.std.proofs.lemmas.List.{length-replicate}
 use Rattle.core_syntax.specs.declared.span.Span.{Span}
 use Rattle.core_syntax.specs.Lists.{each}
 use Rattle.core_syntax.specs.NormTypes.{norm_ty}
-use Rattle.core_syntax.specs.Notes.{NodeNote}
 use Rattle.core_syntax.specs.Syntax.{Ty, Program}
 use Rattle.core_syntax.specs.Typing.{Has, body_context}
 use Rattle.array_values.specs.Values.{Array}
-use Rattle.array_values.specs.declared.value.Value.{Value}
 use Rattle.code_text.specs.Blame.{CodeText}
-use Rattle.lowering.specs.Laws.{code_of_program}
 use Rattle.lowering.specs.Params.{ty_param}
 use Rattle.machine.specs.declared.running.Outcome.{Outcome}
 use Rattle.machine.specs.declared.running.Outcome.TheVariants as outcome
@@ -23,11 +20,10 @@ use Rattle.machine_table.specs.ValueRules.{value_rules}
 use Rattle.remora_driver.specs.declared.errors.SourceRefusal.{SourceRefusal}
 use Rattle.remora_driver.specs.declared.errors.SourceRefusal.TheVariants as no_text
 use Rattle.remora_driver.specs.declared.reply.Reply.{Reply}
-use Rattle.remora_driver.specs.declared.status.Status.TheVariants as status
 use Rattle.remora_driver.specs.Calls.{RefusesBuild}
-use Rattle.remora_driver.specs.Due.{Answer, written, outcome_answer, IsCodeDue, ends, goes_on, IsExecutionDue, not_executed, is_executed, IsRefused, too_long, IsCheckDue, check_refused, checks, not_accepted, IsRunDue, run_refused, runs, IsBuildDue, build_refused, builds, IsExecDue, text_too_long, no_code, executes, HasEnd, reaches, traps, keeps_going, IsReductionDue, not_reduced, is_reduced, IsReduceDue, reduce_refused, reduces, IsJobDue, no_job, does, refused, accepted, front, usage}
+use Rattle.remora_driver.specs.Due.{Answer, written, IsCodeDue, ends, goes_on, IsRefused, too_long, IsCheckDue, check_refused, checks, not_accepted, IsRunDue, run_refused, runs, IsBuildDue, build_refused, builds, text_too_long, reduce_refused, IsJobDue, no_job, does, refused, accepted, front, usage}
 use Rattle.remora_driver.specs.Programs.{IsAcceptedSource}
-use Rattle.remora_driver.specs.Top.{IsTold, IsDueFor, IsAnswer}
+use Rattle.remora_driver.specs.Top.{IsTold, IsDueFor}
 use Rattle.remora_driver.specs.Jobs.{longest, IsJob}
 use Rattle.remora_driver.specs.declared.job.Job.{Job}
 use Rattle.remora_driver.specs.declared.job.Job.TheVariants.{Check, Build, Run, Exec, Reduce}
@@ -108,61 +104,6 @@ told_too_long job (Some bytes) a long is = (bytes, refl, job_too_long job bytes 
 told_too_long job None a long is =
     let others = some_bytes (longest job + 1) in
     (others.0, tt, job_too_long job others.0 a (omega (arith, others.1)) is)
-
--- what is due is an answer
-outcome_answers : (o : table.Outcome Value) → IsAnswer (outcome_answer o).status
-outcome_answers (table.Done a) = tt
-outcome_answers (table.Trap k) = tt
-outcome_answers (table.Stuck k) = tt
-
-code_answers : (code : Code) (budget : ℕ) (a : Answer) → IsCodeDue code budget a → IsAnswer a.status
-code_answers code budget a (ends n o le end is) = subst (λ (b : Answer). IsAnswer b.status) (sym is) (outcome_answers o)
-code_answers code budget a (goes_on going is) = subst (λ (b : Answer). IsAnswer b.status) (sym is) tt
-
-execution_answers : (code : Code) (budget : ℕ) (a : Answer) → IsExecutionDue code budget a → IsAnswer a.status
-execution_answers code budget a (not_executed some is) = subst (λ (b : Answer). IsAnswer b.status) (sym is) tt
-execution_answers code budget a (is_executed none due) = code_answers code budget a due
-
-check_answers : (bytes : List ℕ) (a : Answer) → IsCheckDue bytes a → IsAnswer a.status
-check_answers bytes a (check_refused number at why is) = subst (λ (b : Answer). IsAnswer b.status) (sym is) tt
-check_answers bytes a (checks P t source has is) = subst (λ (b : Answer). IsAnswer b.status) (sym is) tt
-
-run_answers : (bytes : List ℕ) (budget : ℕ) (a : Answer) → IsRunDue bytes budget a → IsAnswer a.status
-run_answers bytes budget a (run_refused number at why is) = subst (λ (b : Answer). IsAnswer b.status) (sym is) tt
-run_answers bytes budget a (runs P notes is due) = code_answers (code_of_program P notes) budget a due
-
-build_answers : (bytes : List ℕ) (a : Answer) → IsBuildDue bytes a → IsAnswer a.status
-build_answers bytes a (build_refused number at why is) = subst (λ (b : Answer). IsAnswer b.status) (sym is) tt
-build_answers bytes a (builds P notes is ok text) = subst IsAnswer (sym ok) tt
-
-exec_answers : (bytes : List ℕ) (budget : ℕ) (a : Answer) → IsExecDue bytes budget a → IsAnswer a.status
-exec_answers bytes budget a (text_too_long long is) = subst (λ (b : Answer). IsAnswer b.status) (sym is) tt
-exec_answers bytes budget a (no_code kind at short blame is) = subst (λ (b : Answer). IsAnswer b.status) (sym is) tt
-exec_answers bytes budget a (executes c short is due) = execution_answers c budget a due
-
-end_answers : (P : Program) (notes : List NodeNote) (budget : ℕ) (a : Answer) → HasEnd P notes budget a → IsAnswer a.status
-end_answers P notes budget a (reaches k v x le reached same is) = subst (λ (b : Answer). IsAnswer b.status) (sym is) tt
-end_answers P notes budget a (traps k kind le trap is) = subst (λ (b : Answer). IsAnswer b.status) (sym is) tt
-end_answers P notes budget a (keeps_going going is) = subst (λ (b : Answer). IsAnswer b.status) (sym is) tt
-
-reduction_answers : (P : Program) (notes : List NodeNote) (budget : ℕ) (a : Answer) → IsReductionDue P notes budget a → IsAnswer a.status
-reduction_answers P notes budget a (not_reduced none is) = subst (λ (b : Answer). IsAnswer b.status) (sym is) tt
-reduction_answers P notes budget a (is_reduced reducible end) = end_answers P notes budget a end
-
-reduce_answers : (bytes : List ℕ) (budget : ℕ) (a : Answer) → IsReduceDue bytes budget a → IsAnswer a.status
-reduce_answers bytes budget a (reduce_refused number at why is) = subst (λ (b : Answer). IsAnswer b.status) (sym is) tt
-reduce_answers bytes budget a (reduces P notes source are due) = reduction_answers P notes budget a due
-
-job_answers : (job : Job) (bytes : List ℕ) (a : Answer) → IsJobDue job bytes a → IsAnswer a.status
-job_answers Check bytes a due = check_answers bytes a due
-job_answers Build bytes a due = build_answers bytes a due
-job_answers (Run budget) bytes a due = run_answers bytes budget a due
-job_answers (Exec budget) bytes a due = exec_answers bytes budget a due
-job_answers (Reduce budget) bytes a due = reduce_answers bytes budget a due
-
-pub due_answers : (words : List (List ℕ)) (left : Option (List ℕ)) (a : Answer) → IsDueFor words left a → IsAnswer a.status
-due_answers words left a (bytes, told, no_job none is) = subst (λ (b : Answer). IsAnswer b.status) (sym is) tt
-due_answers words left a (bytes, told, does job is due) = job_answers job bytes a due
 
 -- some bytes that the source tells
 told_some : (left : Option (List ℕ)) → (bytes : List ℕ) × IsTold left bytes

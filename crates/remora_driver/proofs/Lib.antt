@@ -1,6 +1,7 @@
 pub mod Answers
 pub mod Called
 pub mod Dues
+pub mod Executed
 pub mod JobWords
 pub mod Meant
 pub mod OneBlame

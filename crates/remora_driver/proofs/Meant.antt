@@ -1,4 +1,4 @@
--- What is due for a program that runs today is what typed reduction of the program means.
+-- What is due for a program that runs today is what typed reduction of the program comes to.
 use Rattle.std.proofs.Common.{subst, ℕ, List, []}
 use Rattle.std.proofs.Math.Logic.{∥∥₁_map}
 use Rattle.core_syntax.specs.declared.errors.StuckKind.{StuckKind}
@@ -12,13 +12,11 @@ use Rattle.compiled_laws.specs.Laws.{DoesAsSource}
 use Rattle.compiled_laws.proofs.Results.{code_does, code_goes_on}
 use Rattle.remora_driver.specs.declared.answer.Answer.{Answer as Given}
 use Rattle.remora_driver.specs.declared.answer.Answer.TheVariants as given
-use Rattle.remora_driver.specs.declared.job.Job.{Job}
 use Rattle.remora_driver.specs.declared.job.Job.TheVariants.{Check, Build, Run, Exec, Reduce}
 use Rattle.remora_driver.specs.Calls.{RunsSource, IsUnstuck}
-use Rattle.remora_driver.specs.Due.{Answer, stuck, IsCodeDue, ends, goes_on, IsRunDue, run_refused, runs, IsBuildDue, build_refused, builds, IsJobDue, IsDue, no_job, does}
-use Rattle.remora_driver.specs.Jobs.{IsJob}
+use Rattle.remora_driver.specs.Due.{Answer, stuck, IsCodeDue, ends, goes_on, IsRunDue, run_refused, runs, IsBuildDue, build_refused, builds, IsDue, no_job, does}
 use Rattle.remora_driver.specs.Laws.{DueMeans}
-use Rattle.remora_driver.specs.Meant.{ShowsReduction, value, trap, unfinished, RunMeans, not_run, shows, BuildMeans, not_built, gives, JobMeans, Means}
+use Rattle.remora_driver.specs.Meant.{ShowsReduction, value, trap, unfinished, IsRunMeant, not_run, shows, IsBuildMeant, not_built, gives, IsJobMeant, IsMeant}
 use Rattle.remora_driver.specs.Programs.{IsProgram}
 use Rattle.remora_driver.proofs.OneDue.{one_job}
 use Rattle.remora_driver.proofs.OneEnd.{not_so}
@@ -39,31 +37,31 @@ module _ (P : Program) (notes : List NodeNote) (t : Ty) (ready : IsReady P t not
   due_shows (ends n (Stuck kind) le end is) = absurd (does_so.never_stuck n kind end)
   due_shows (goes_on still is) = unfinished still (λ k end. code_goes_on P t notes [] ready literals budget k still end) is
 
-run_means : (bytes : List ℕ) (budget : ℕ) (a : Answer) → IsRunDue bytes budget a → RunMeans bytes budget a
+run_means : (bytes : List ℕ) (budget : ℕ) (a : Answer) → IsRunDue bytes budget a → IsRunMeant bytes budget a
 run_means bytes budget a (run_refused number at why is) = not_run number at why is
 run_means bytes budget a (runs P notes is due) = shows P notes is (∥∥₁_map is.ready (λ x. due_shows P notes x.0 x.1 is.literals budget a due))
 
-build_means : (bytes : List ℕ) (a : Answer) → IsBuildDue bytes a → BuildMeans bytes a
+build_means : (bytes : List ℕ) (a : Answer) → IsBuildDue bytes a → IsBuildMeant bytes a
 build_means bytes a (build_refused number at why is) = not_built number at why is
 build_means bytes a (builds P notes is ok text) = gives P notes is text (does_as_source bytes P notes is)
 
-job_means : (job : Job) (bytes : List ℕ) (a : Answer) → IsJobDue job bytes a → JobMeans job bytes a
+pub job_means : DueMeans
 job_means Check bytes a due = tt
 job_means Build bytes a due = build_means bytes a due
 job_means (Run budget) bytes a due = run_means bytes budget a due
 job_means (Exec budget) bytes a due = tt
 job_means (Reduce budget) bytes a due = tt
 
-pub due_means : DueMeans
+pub due_means : (words : List (List ℕ)) (bytes : List ℕ) (a : Answer) → IsDue words bytes a → IsMeant words bytes a
 due_means words bytes a (no_job none is) = λ job call. absurd (none (job, call))
-due_means words bytes a (does job call due) = λ other call'. subst (λ j. JobMeans j bytes a) (one_job words job other call call') (job_means job bytes a due)
+due_means words bytes a (does job call due) = λ other call'. subst (λ j. IsJobMeant j bytes a) (one_job words job other call call') (job_means job bytes a due)
 
 -- a source that is run is never stuck
 run_unstuck : (bytes : List ℕ) (budget : ℕ) (kind : StuckKind) → IsRunDue bytes budget (stuck kind) → ⊥
 run_unstuck bytes budget kind (run_refused number at why is) = stuck_or_refused kind number at is
 run_unstuck bytes budget kind (runs P notes is (ends n (Done x) le end same)) = stuck_or_shown kind x same
 run_unstuck bytes budget kind (runs P notes is (ends n (Trap why) le end same)) = stuck_or_trapped kind why same
-run_unstuck bytes budget kind (runs P notes is (ends n (Stuck why) le end same)) = not_so (does_as_source bytes P notes is) (λ d. d.never_stuck n why end)
+run_unstuck bytes budget _ (runs P notes is (ends n (Stuck why) le end same)) = not_so (does_as_source bytes P notes is) (λ d. d.never_stuck n why end)
 run_unstuck bytes budget kind (runs P notes is (goes_on still same)) = stuck_or_running kind same
 
 -- and so its call doesn't answer that it is stuck

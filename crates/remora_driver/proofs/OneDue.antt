@@ -1,5 +1,5 @@
 -- One answer is due.
-use Rattle.std.proofs.Common.{◌≡◌, sym, ap, ◌∙◌, subst, ℕ, arith, List, [], Option, Some, Ok, Err}
+use Rattle.std.proofs.Common.{◌≡◌, sym, ap, ◌∙◌, subst, ℕ, arith, List, [], ◌++◌, Option, Some, Ok, Err}
 use Rattle.std.proofs.lemmas.Option.{none-some}
 use Rattle.std.proofs.Math.Logic.{∥∥₁_elim, ∥∥₁_map, ∥∥₁_map₂}
 use Rattle.std.specs.Coded.{Coded-set, coded_list, coded_ℕ}
@@ -20,7 +20,6 @@ use Rattle.sexp_reader.proofs.Leftmost.{reads_one_way, reads_or_is_refused}
 use Rattle.name_resolve.specs.Means.{NameBlame, program}
 use Rattle.name_resolve.specs.Reading.{Read}
 use Rattle.lowering.specs.Laws.{code_of_program}
-use Rattle.code_text.specs.Blame.{CodeText}
 use Rattle.code_text.specs.Text.{code_text}
 use Rattle.code_text.proofs.Verdicts.{one_code_read}
 use Rattle.remora_driver.specs.declared.job.Job.{Job}
@@ -127,7 +126,7 @@ one_check bytes a b (checks P t is has e) (checks Q u is' has' h) =
 
 -- a program with inputs doesn't run
 pub inputs_or_not : (bytes : List ℕ) (P Q : Program) (notes : List NodeNote) → IsSource bytes P → ¬ (P.inputs ≡ []) → IsProgram bytes Q notes → ⊥
-inputs_or_not bytes P Q notes is some runs = some (ap (λ (R : Program). R.inputs) (one_source bytes P Q is runs.source.means) ∙ runs.inputs)
+inputs_or_not bytes P Q notes is some none = some (ap (λ (R : Program). R.inputs) (one_source bytes P Q is none.source.means) ∙ none.inputs)
 
 pub one_no_code : (bytes : List ℕ) (m n : ℕ) (p q : Span) → HasNoCode bytes m p → HasNoCode bytes n q → refused m p ≡ refused n q
 one_no_code bytes m n p q (not_accepted why) (not_accepted why') = one_refusal bytes m n p q why why'

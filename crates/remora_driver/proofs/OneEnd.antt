@@ -130,7 +130,7 @@ module _ (c d : Code) (same : ∥ c ≡ d ∥₁) (budget : ℕ) where
 -- ---- reductions
 
 -- two ends of the steps of one program
-module _ (P : Program) (ns ms : List NodeNote) (same : ∥ ns ≡ ms ∥₁) (budget : ℕ) where
+module _ (P : Program) (ns ms : List NodeNote) (same : ∥ ns ≡ ms ∥₁) where
   pub values_agree : (k l : ℕ) (v w : TypedTerm) (x y : Array) → Reaches P ns [] k v → Reaches P ms [] l w → array_data x ≡ array_of_value typed_rules v → array_data y ≡ array_of_value typed_rules w → array_text x ≡ array_text y
   values_agree k l v w x y r s is is' =
       ∥∥₁_elim same (Coded-set (coded_list coded_ℕ) (array_text x) (array_text y)) (λ e.
@@ -149,7 +149,9 @@ module _ (P : Program) (ns ms : List NodeNote) (same : ∥ ns ≡ ms ∥₁) (bu
   trap_or_value k l kind w r s =
       ∥∥₁_elim same (λ x y. absurd x) (λ e. not_both typed_rules (def_terms P ms) l k (start_term P ms []) w kind s (subst (λ (os : List NodeNote). SourceTraps P os [] k kind) e r))
 
-  -- what goes on has no end within the budget
+-- and within one budget
+module _ (P : Program) (ns ms : List NodeNote) (same : ∥ ns ≡ ms ∥₁) (budget : ℕ) where
+  -- what goes on has no end
   no_value : (k : ℕ) (v : TypedTerm) → k ≤ budget → Reaches P ns [] k v → SourceGoes P ms [] budget → ⊥
   no_value k v le r going = ∥∥₁_elim same (λ x y. absurd x) (λ e. (going k le).0 v (subst (λ (os : List NodeNote). Reaches P os [] k v) e r))
 
@@ -163,11 +165,11 @@ module _ (P : Program) (ns ms : List NodeNote) (same : ∥ ns ≡ ms ∥₁) (bu
   going_or_trap l kind le going s = ∥∥₁_elim same (λ x y. absurd x) (λ e. (going l le).1 kind (subst (λ (os : List NodeNote). SourceTraps P os [] l kind) (sym e) s))
 
   one_end : (a b : Answer) → HasEnd P ns budget a → HasEnd P ms budget b → a ≡ b
-  one_end a b (reaches k v x le r is p) (reaches l w y le' s is' q) = p ∙ ap (λ (text : List ℕ). written (line text)) (values_agree k l v w x y r s is is') ∙ sym q
-  one_end a b (reaches k v x le r is p) (traps l kind le' s q) = absurd (value_or_trap k l v kind r s)
+  one_end a b (reaches k v x le r is p) (reaches l w y le' s is' q) = p ∙ ap (λ (text : List ℕ). written (line text)) (values_agree P ns ms same k l v w x y r s is is') ∙ sym q
+  one_end a b (reaches k v x le r is p) (traps l kind le' s q) = absurd (value_or_trap P ns ms same k l v kind r s)
   one_end a b (reaches k v x le r is p) (keeps_going going q) = absurd (no_value k v le r going)
-  one_end a b (traps k kind le r p) (reaches l w y le' s is' q) = absurd (trap_or_value k l kind w r s)
-  one_end a b (traps k kind le r p) (traps l kind' le' s q) = p ∙ ap trapped (kinds_agree k l kind kind' r s) ∙ sym q
+  one_end a b (traps k kind le r p) (reaches l w y le' s is' q) = absurd (trap_or_value P ns ms same k l kind w r s)
+  one_end a b (traps k kind le r p) (traps l kind' le' s q) = p ∙ ap trapped (kinds_agree P ns ms same k l kind kind' r s) ∙ sym q
   one_end a b (traps k kind le r p) (keeps_going going q) = absurd (no_trap k kind le r going)
   one_end a b (keeps_going going p) (reaches l w y le' s is' q) = absurd (going_or_value l w le' going s)
   one_end a b (keeps_going going p) (traps l kind le' s q) = absurd (going_or_trap l kind le' going s)

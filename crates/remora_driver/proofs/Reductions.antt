@@ -41,7 +41,7 @@ use Rattle.remora_driver.specs.Due.{Answer, front, stuck, HasEnd, reaches, traps
 use Rattle.remora_driver.specs.Jobs.{longest_source}
 use Rattle.remora_driver.specs.Programs.{IsAcceptedSource}
 use Rattle.remora_driver.specs.Reducible.{IsReducible}
-use Rattle.remora_driver.specs.Reductions.{notes_of, IsStarted, StandsAt, IsPrinted, IsValueOf, ended, EndsIn, IsCheckedDue, place_of, IsNoData, surplus, LooksForData, LooksForForms}
+use Rattle.remora_driver.specs.Reductions.{notes_of, IsStarted, StandsAt, IsPrinted, IsValueOf, ended, EndsIn, IsCheckedDue, place_of, surplus, LooksForData, LooksForForms}
 use Rattle.remora_driver.proofs.Statuses.{stuck_or_shown, stuck_or_trapped, stuck_or_refused, stuck_or_running}
 
 -- ---- inputs
@@ -90,7 +90,7 @@ ends_going c budget closed stands = keeps_going stands.2 refl
 
 -- ---- the test
 
-not_true : (b : Truth) → b ≡ false → IsTrue b → ⊥
+pub not_true : (b : Truth) → b ≡ false → IsTrue b → ⊥
 not_true b e h = let x : false ≡ true = sym e ∙ h in cc
 
 -- the test says that the program is reduced today, or that it isn't

@@ -1,5 +1,5 @@
 -- Where neither is still running, a source that is run and is reduced has one answer.
-use Rattle.std.proofs.Common.{◌≡◌, refl, sym, ap, ◌∙◌, subst, ℕ, List, []}
+use Rattle.std.proofs.Common.{◌≡◌, sym, ap, ◌∙◌, subst, ℕ, List, []}
 use Rattle.std.specs.Prelude.{◌≢◌}
 use Rattle.std.proofs.Math.Logic.{∥∥₁_elim}
 use Rattle.std.specs.Coded.{Coded-set, coded_list, coded_ℕ}
@@ -9,11 +9,11 @@ use Rattle.machine_table.specs.Machine.{Done, Trap, Stuck}
 use Rattle.lowering.specs.Laws.{code_of_program}
 use Rattle.compiled_laws.specs.Laws.{DoesAsSource}
 use Rattle.value_text.specs.ValueText.{array_text}
-use Rattle.remora_driver.specs.Due.{Answer, written, refused, trapped, still_running, front, IsCodeDue, ends, goes_on, not_accepted, has_inputs, IsRunDue, run_refused, runs, HasEnd, reaches, traps, keeps_going, IsReductionDue, not_reduced, is_reduced, IsReduceDue, reduce_refused, reduces}
+use Rattle.remora_driver.specs.Due.{Answer, written, refused, trapped, still_running, front, IsCodeDue, ends, goes_on, not_accepted, has_inputs, run_refused, runs, HasEnd, reaches, traps, keeps_going, IsReductionDue, not_reduced, is_reduced, reduce_refused, reduces}
 use Rattle.remora_driver.specs.Laws.{RunIsReduce}
 use Rattle.remora_driver.specs.Texts.{line}
 use Rattle.remora_driver.proofs.Meant.{does_as_source}
-use Rattle.remora_driver.proofs.OneDue.{one_source, one_refusal, refused_or_not, code_or_not, program_notes, notes_agree}
+use Rattle.remora_driver.proofs.OneDue.{one_source, one_refusal, refused_or_not, program_notes, notes_agree}
 use Rattle.remora_driver.proofs.OneEnd.{not_so, coded_kind, values_agree, kinds_agree, value_or_trap, trap_or_value}
 
 -- one program, whose code ends within one budget and whose reduction within another

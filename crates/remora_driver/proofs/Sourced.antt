@@ -1,8 +1,10 @@
 -- What is due for a source, from what the reader, the names, the checker and the compiler say.
-use Rattle.std.proofs.Common.{◌≡◌, sym, subst, ℕ, ◌≤◌, List, [], length, Result, Ok, Err}
+use Rattle.std.proofs.Common.{◌≡◌, refl, sym, ap, ◌∙◌, subst, ℕ, ◌≤◌, List, [], ◌∷◌, length, Bool as Truth, true, false, Result, Ok, Err}
+use Rattle.std.specs.Prelude.{IsTrue, ◌↔◌}
 use Rattle.std.proofs.Math.Logic.{∥∥₁_map}
 use Rattle.core_syntax.specs.declared.checked.Checked.{Checked}
 use Rattle.core_syntax.specs.declared.program.Program.{Program}
+use Rattle.core_syntax.specs.declared.ty.Ty.{Ty}
 use Rattle.core_syntax.specs.Lists.{each}
 use Rattle.core_syntax.specs.Refine.{ty_of}
 use Rattle.core_syntax.specs.Syntax as syntax
@@ -19,7 +21,7 @@ use Rattle.remora_driver.specs.Jobs.{longest_source}
 use Rattle.remora_driver.specs.Programs.{IsSource, IsAcceptedSource}
 use Rattle.remora_driver.specs.Reductions.{notes_of}
 use Rattle.remora_driver.specs.Sources.{Resolves, ResolvesSource, ChecksProgram, ChecksSource, CompilesChecked, Compiles}
-use Rattle.remora_driver.proofs.Reductions.{none_fits}
+use Rattle.remora_driver.proofs.Reductions.{none_fits, not_true}
 
 -- a source that reads as forms
 pub source_resolved : (bytes : List ℕ) (fs : Forms) (r : Result Program SourceRefusal) → length bytes ≤ longest_source → Reads bytes fs → Resolves fs r → ResolvesSource bytes r
@@ -46,6 +48,19 @@ checked_ready c none =
       ty_of c.body,
       record { inputs = each ty_of c.inputs; made = c.program.well_made; checked = x; fits = none_fits (program_of c.program) (each ty_of c.inputs) none x.inputs_are },
     ))
+
+-- no types, if none of them are seen
+no_types : (ts : List Ty) → each ty_of ts ≡ [] → ts ≡ []
+no_types [] e = refl
+no_types (t ∷ ts) e = absurd (cc)
+
+-- the test of a checked program's inputs says that there are none, or some
+module _ (c : Checked) (P : Program) (b : Truth) (same : P ≡ c.program) (tells : IsTrue b ↔ (P.inputs ≡ [])) where
+  pub no_inputs : b ≡ true → (program_of c.program).inputs ≡ []
+  no_inputs e = ap (λ (Q : Program). (program_of Q).inputs) (sym same) ∙ ap (each ty_of) (tells.0 e)
+
+  pub some_inputs : b ≡ false → (program_of c.program).inputs ≡ [] → ⊥
+  some_inputs e none = not_true b e (tells.1 (no_types P.inputs (ap (λ (Q : Program). (program_of Q).inputs) same ∙ none)))
 
 -- the code of a source's program
 pub source_compiled : (bytes : List ℕ) (c : Checked) (r : Result Code SourceRefusal) → IsAcceptedSource bytes (program_of c.program) → CompilesChecked c r → Compiles bytes r

@@ -1,7 +1,6 @@
 -- What calls on a source or a code text answer, beside data.
-use Rattle.std.specs.Prelude.{◌≡◌, ℕ, List, [], Option, Some, None, ⊤}
+use Rattle.std.specs.Prelude.{◌≡◌, ℕ, ◌≤◌, List, [], length, Option, Some, None, ⊤}
 use Rattle.core_syntax.specs.declared.checked.Checked.{Checked}
-use Rattle.core_syntax.specs.declared.span.Span.{Span}
 use Rattle.core_syntax.specs.Notes.{NodeNote}
 use Rattle.core_syntax.specs.Syntax.{Program}
 use Rattle.core_syntax.specs.Wholes.{program_of}
@@ -12,11 +11,12 @@ use Rattle.remora_driver.specs.declared.answer.Answer.TheVariants as given
 use Rattle.remora_driver.specs.declared.errors.SourceRefusal.{SourceRefusal}
 use Rattle.remora_driver.specs.declared.errors.SourceRefusal.TheVariants as no_text
 use Rattle.remora_driver.specs.Due.{Answer, written, refused, trapped, stuck, still_running, IsCodeDue, IsExecutionDue, IsBuildDue, IsRunDue, IsExecDue, IsReduceDue}
+use Rattle.remora_driver.specs.Jobs.{longest_code}
 use Rattle.remora_driver.specs.Programs.{IsAcceptedSource, IsProgram}
 use Rattle.remora_driver.specs.Reducible.{IsReducible}
-use Rattle.remora_driver.specs.Reductions.{IsCheckedDue, EndsIn, IsNoData, IsSurplus}
+use Rattle.remora_driver.specs.Reductions.{IsCheckedDue, IsNoData, IsSurplus}
 
--- the status and the text of an answer; the top call gives none of refused data and of want of memory
+-- the status and the text of an answer; refused data and want of memory have none in the top call
 abbrev pub answer_of : Given → Option Answer
 answer_of (given.Text text) = Some (written text.items)
 answer_of (given.Trap kind) = Some (trapped kind)
@@ -43,10 +43,10 @@ TakesData _ = ⊤
 
 -- the call isn't stuck
 abbrev pub IsUnstuck : Given → Type 0
-IsUnstuck (given.Stuck kind) = ⊥
+IsUnstuck (given.Stuck _) = ⊥
 IsUnstuck _ = ⊤
 
--- what a call answers where this is due: a refusal; else why the data is refused, where what is due is more than a refusal; else how the run ends
+-- what a call answers where this is due: a refusal of the source or the code; else the refusal of the data, where a run is due; else how the run ends
 abbrev pub CallsBack : (Answer → Type 0) → Type 0 → List ℕ → Given → Type 0
 CallsBack IsDue IsTaken bytes (given.Text text) = IsNoData bytes × IsDue (written text.items)
 CallsBack IsDue IsTaken bytes (given.Trap kind) = IsNoData bytes × IsDue (trapped kind)
@@ -93,9 +93,9 @@ RunsCode c bytes budget = CallsBack (IsCodeDue c budget) ⊤ bytes
 abbrev pub ExecutesCode : Code → List ℕ → ℕ → Given → Type 0
 ExecutesCode c bytes budget = CallsBack (IsExecutionDue c budget) (c.params ≡ []) bytes
 
--- the bytes are the text of a code that is executed today
+-- the bytes are the text of a code that is executed today, and no longer than a code text may be
 abbrev pub IsExecuted : List ℕ → Type 0
-IsExecuted text = (c : Code) × CodeText c text × (c.params ≡ [])
+IsExecuted text = (c : Code) × (length text ≤ longest_code) × CodeText c text × (c.params ≡ [])
 
 -- of one that executes a code text
 abbrev pub RunsText : List ℕ → List ℕ → ℕ → Given → Type 0

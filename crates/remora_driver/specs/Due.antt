@@ -143,7 +143,7 @@ pub data IsReductionDue (P : Program) (notes : List NodeNote) (budget : ℕ) (a 
   not_reduced : ¬ (IsReducible P) → a ≡ refused 90 front → IsReductionDue P notes budget a
   is_reduced : IsReducible P → HasEnd P notes budget a → IsReductionDue P notes budget a
 
--- what is due for a program source that is reduced
+-- what is due for a program source that is reduced (its program has one list of notes at most, so they are those of `IsProgram`)
 pub data IsReduceDue (bytes : List ℕ) (budget : ℕ) (a : Answer) : Type 0 where
   reduce_refused : (number : ℕ) (at : Span) → IsRefused bytes number at → a ≡ refused number at → IsReduceDue bytes budget a
   reduces : (P : Program) (notes : List NodeNote) → IsAcceptedSource bytes P → ∥ ProgramNotesAre P notes ∥₁ → IsReductionDue P notes budget a → IsReduceDue bytes budget a

@@ -1,4 +1,4 @@
--- What is due for a program that runs today is what typed reduction of the program means.
+-- What is due for a program that runs today is what typed reduction of the program comes to.
 use Rattle.std.specs.Prelude.{◌≡◌, ℕ, ◌+◌, ◌*◌, ◌<◌, ◌≤◌, List, [], ⊤}
 use Rattle.core_syntax.specs.declared.errors.TrapKind.{TrapKind}
 use Rattle.core_syntax.specs.declared.span.Span.{Span}
@@ -22,7 +22,7 @@ use Rattle.remora_driver.specs.Due.{Answer, refused, shown, trapped, still_runni
 use Rattle.remora_driver.specs.Jobs.{IsJob}
 use Rattle.remora_driver.specs.Programs.{IsProgram}
 
--- What typed reduction of a program without inputs comes to, where its code may do so many steps: the value that is reached or the trap that is met, at its k-th step and the n-th of the code, which bound each other; or each end of reduction is late.
+-- What typed reduction of a program without inputs comes to, where its code may do so many steps: the value that is reached or the trap that is met, at its k-th step and the n-th of the code, which bound each other; or the code hasn't ended, and reduction ends only at a k with the budget below 16 * S * (k + 1), where S is the number of nodes.
 pub data ShowsReduction (P : Program) (notes : List NodeNote) (budget : ℕ) (a : Answer) : Type 0 where
   value : (n k : ℕ) (v : TypedTerm) (x : Array) → n ≤ budget → Ends value_rules (code_of_program P notes) [] n (Done x) → Reaches P notes [] k v → array_data x ≡ array_of_value typed_rules v → Bounds P n k
       → a ≡ shown x → ShowsReduction P notes budget a
@@ -32,21 +32,21 @@ pub data ShowsReduction (P : Program) (notes : List NodeNote) (budget : ℕ) (a 
       → a ≡ still_running → ShowsReduction P notes budget a
 
 -- what is answered for a source that is run: why it has no code today, or what typed reduction of its program comes to
-pub data RunMeans (bytes : List ℕ) (budget : ℕ) (a : Answer) : Type 0 where
-  not_run : (number : ℕ) (at : Span) → HasNoCode bytes number at → a ≡ refused number at → RunMeans bytes budget a
-  shows : (P : Program) (notes : List NodeNote) → IsProgram bytes P notes → ∥ ShowsReduction P notes budget a ∥₁ → RunMeans bytes budget a
+pub data IsRunMeant (bytes : List ℕ) (budget : ℕ) (a : Answer) : Type 0 where
+  not_run : (number : ℕ) (at : Span) → HasNoCode bytes number at → a ≡ refused number at → IsRunMeant bytes budget a
+  shows : (P : Program) (notes : List NodeNote) → IsProgram bytes P notes → ∥ ShowsReduction P notes budget a ∥₁ → IsRunMeant bytes budget a
 
 -- what is answered for a source that is built: why it has no code today, or the text of a code that does as its program does by typed reduction, and is never stuck
-pub data BuildMeans (bytes : List ℕ) (a : Answer) : Type 0 where
-  not_built : (number : ℕ) (at : Span) → HasNoCode bytes number at → a ≡ refused number at → BuildMeans bytes a
-  gives : (P : Program) (notes : List NodeNote) → IsProgram bytes P notes → CodeText (code_of_program P notes) a.text → ∥ DoesAsSource P notes [] ∥₁ → BuildMeans bytes a
+pub data IsBuildMeant (bytes : List ℕ) (a : Answer) : Type 0 where
+  not_built : (number : ℕ) (at : Span) → HasNoCode bytes number at → a ≡ refused number at → IsBuildMeant bytes a
+  gives : (P : Program) (notes : List NodeNote) → IsProgram bytes P notes → CodeText (code_of_program P notes) a.text → ∥ DoesAsSource P notes [] ∥₁ → IsBuildMeant bytes a
 
 -- the same of the two jobs
-abbrev pub JobMeans : Job → List ℕ → Answer → Type 0
-JobMeans Build bytes a = BuildMeans bytes a
-JobMeans (Run budget) bytes a = RunMeans bytes budget a
-JobMeans _ bytes a = ⊤
+abbrev pub IsJobMeant : Job → List ℕ → Answer → Type 0
+IsJobMeant Build bytes a = IsBuildMeant bytes a
+IsJobMeant (Run budget) bytes a = IsRunMeant bytes budget a
+IsJobMeant _ bytes a = ⊤
 
 -- and of words that ask for them
-abbrev pub Means : List (List ℕ) → List ℕ → Answer → Type 0
-Means words bytes a = (job : Job) → IsJob words job → JobMeans job bytes a
+abbrev pub IsMeant : List (List ℕ) → List ℕ → Answer → Type 0
+IsMeant words bytes a = (job : Job) → IsJob words job → IsJobMeant job bytes a

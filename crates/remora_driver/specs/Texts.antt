@@ -21,17 +21,20 @@ accepted_text t = codes "ok " ++ ty_text (norm_ty t)
 abbrev pub refusal_text : ℕ → Span → List ℕ
 refusal_text number at = codes "refused " ++ (decimal number ++ (codes " " ++ (decimal at.line ++ (codes ":" ++ decimal at.col))))
 
+-- a trap
 abbrev pub trap_text : TrapKind → List ℕ
 trap_text Overflow = codes "trap overflow"
 trap_text Zero = codes "trap zero"
 trap_text Size = codes "trap size"
 
+-- a machine that is stuck
 abbrev pub stuck_text : StuckKind → List ℕ
 stuck_text Operand = codes "stuck operand"
 stuck_text Kind = codes "stuck kind"
 stuck_text Rank = codes "stuck rank"
 stuck_text Shape = codes "stuck shape"
 
+-- a budget that was used up
 abbrev pub still_running_text : List ℕ
 still_running_text = codes "still running"
 

@@ -45,8 +45,8 @@ pub fn build(alloc: Global, source: &[u8]) -> Result<Vec<u8>, SourceRefusal>
 
 /// What the code of the program that a source means comes to by at most `budget` steps of the machine, with these data
 /// (docs/LANGUAGE.md, "Calls"): the line of its value, a trap, or that it is still running. It refuses what `check_source`
-/// refuses, then with 90 a program that has inputs, and then data that holds a value, with 40, 41 or 44. It is never `Stuck`.
-/// It answers `Memory` where there is none.
+/// refuses, then with 90 a program that has inputs, and then data that is too long (44), isn't read as forms (40), or holds a
+/// value (41). It is never `Stuck`. It answers `Memory` where there is none.
 pub fn run_source(alloc: Global, source: &[u8], given: &[u8], budget: u64) -> Answer
     ensures due { RunsSource source.now given.now budget result }
     ensures unstuck { IsUnstuck result }
@@ -99,8 +99,8 @@ fn reduce_checked(alloc: Global, checked: &Checked, given: &[u8], budget: u64) -
 
 /// What the program that a source means comes to by at most `budget` steps of reduction, with these data (docs/LANGUAGE.md,
 /// "Reduction"): the line of its value, a trap, or that it is still running. It refuses what `check_source` refuses, then with
-/// 90 a program that isn't reduced today, and then data that holds a value, with 40, 41 or 44. It is never `Stuck`. It answers
-/// `Memory` where there is none.
+/// 90 a program that isn't reduced today, and then data that is too long (44), isn't read as forms (40), or holds a value (41).
+/// It is never `Stuck`. It answers `Memory` where there is none.
 pub fn reduce_source(alloc: Global, source: &[u8], given: &[u8], budget: u64) -> Answer
     ensures due { ReducesSource source.now given.now budget result }
     ensures unstuck { IsUnstuck result }

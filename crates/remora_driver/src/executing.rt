@@ -65,8 +65,8 @@ fn exec_short(alloc: Global, text: &[u8], given: &[u8], budget: u64) -> Answer
 
 /// What the code with this text comes to by at most `budget` steps of the machine, with these data (docs/MACHINE.md): the line of
 /// its value, a trap, where it is stuck, or that it is still running. It refuses with 31 a text that is too long, with 32 and 33
-/// one that is no code's, with 90 a code that has inputs, and then data that holds a value, with 40, 41 or 44. It answers
-/// `Memory` where there is none.
+/// one that is no code's, with 90 a code that has inputs, and then data that is too long (44), isn't read as forms (40), or holds
+/// a value (41). It answers `Memory` where there is none.
 pub fn exec(alloc: Global, code: &[u8], given: &[u8], budget: u64) -> Answer
     ensures { RunsText code.now given.now budget result }
 {

@@ -45,8 +45,8 @@ fn code_answer(alloc: Global, code: &Code, budget: u64) -> Answer
     }
 }
 
-/// The answer of a code without inputs, with these data and so many steps: data that holds a value is refused with 40, 41 or
-/// 44, and else the answer says how the code ends. It is `Memory` where there is none.
+/// The answer of a code without inputs, with these data and so many steps: data that is too long (44), isn't read as forms (40),
+/// or holds a value (41) is refused, and else the answer says how the code ends. It is `Memory` where there is none.
 pub fn run_code(alloc: Global, code: &Code, given: &[u8], budget: u64) -> Answer
     requires { code.now.params ≡ [] }
     ensures { RunsCode code.now given.now budget result }

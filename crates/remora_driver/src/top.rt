@@ -5,7 +5,7 @@ ghost use Rattle.rem_base.specs.Counts.{Rose};
 ghost use Rattle.rem_base.specs.Taken.{AppendsFront, TakesAtMost};
 ghost use Rattle.remora_driver.specs.Due.{Answer as Due, IsDue, IsJobDue};
 ghost use Rattle.remora_driver.specs.Jobs.{IsCall, IsJob, longest};
-ghost use Rattle.remora_driver.specs.Meant.{Means};
+ghost use Rattle.remora_driver.specs.Meant.{IsMeant};
 ghost use Rattle.remora_driver.specs.Sources.{seen};
 ghost use Rattle.remora_driver.specs.Top.{IsTold, IsDueFor, IsAnswer, HaltsFor};
 
@@ -102,8 +102,8 @@ pub fn remora<P: Source, I: Source, O: Sink>(
     // The status and the bytes that were appended are those that are due.
     ensures due { IsAnswer result → (text : List ℕ) × IsDueFor (map string_bytes words.now) (P.left program.old) (record { status = result; text = text }) × Appends (O.written out.old) (O.written out.new) text }
 
-    // What is due of `run` and of `build` means what typed reduction of the program means.
-    ensures meant { (bytes : List ℕ) (a : Due) → IsDue (map string_bytes words.now) bytes a → Means (map string_bytes words.now) bytes a }
+    // What is due of `run` and of `build` is what typed reduction of the program comes to.
+    ensures meant { (bytes : List ℕ) (a : Due) → IsDue (map string_bytes words.now) bytes a → IsMeant (map string_bytes words.now) bytes a }
 
     // A fault comes only where the count rose. After a failed write a front of what was due was appended.
     ensures read_fault { result ≡ Status.ReadFault → Rose (P.faults program.old) (P.faults program.new) }

@@ -1,9 +1,15 @@
 // Calls of the program over memory.
-use rem_base::{MemSink, SureSource};
+use rem_base::{MemSink, MemSource, SureSource};
 use remora_driver::{Status, remora};
 use std::alloc::Global;
 use std::process::Abort;
 use std::test::Fail;
+
+// So many bytes are read and written at a time.
+const PIECE: usize = 100;
+
+// So many bytes of output are kept.
+const ROOM: usize = 4096;
 
 /// What a call answers.
 #[derive(Drop)]
@@ -18,9 +24,9 @@ pub fn call(alloc: Global, words: &str, source: &[u8]) -> Result<Called, Fail> {
     for word in words.split_whitespace() {
         given.push(String::from_str(alloc, word)?)?;
     }
-    let mut program = SureSource::new(source.to_vec(alloc)?);
+    let mut program = MemSource::new(source.to_vec(alloc)?, PIECE, Vec::new(alloc));
     let mut input = SureSource::new(Vec::new(alloc));
-    let mut text = MemSink::new(alloc, 1024, 1024, Vec::new(alloc))?;
+    let mut text = MemSink::new(alloc, ROOM, PIECE, Vec::new(alloc))?;
     let status = remora(alloc, given.as_slice(), &mut program, &mut input, &mut text);
     Ok(Called { status, text })
 }
@@ -46,9 +52,9 @@ pub fn prints(
     source: &[u8],
     line: &str,
 ) -> Result<(), Fail> {
-    let called = call(alloc, words, source)?;
     let end = if line.is_empty() { "" } else { "\n" };
     let due = format!(in alloc; "{line}{end}")?;
+    let called = call(alloc, words, source)?;
     let printed = str::from_utf8(called.text.written()).unwrap_or("no text");
     assert_eq!(rt; printed, due.as_str(), "{words}");
     assert_eq!(rt; called.status.code(), status_of(line), "{words}");

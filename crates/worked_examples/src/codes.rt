@@ -1,73 +1,108 @@
 // Codes, and what they come to.
-use crate::call::{ends, prints};
+use crate::call::ends;
 use crate::row::first;
-use code_text::parse;
-use machine::load;
-use std::alloc::Global;
+use std::alloc::{AllocError, Global};
 use std::process::Abort;
 use std::test::Fail;
 
-// One code a row: its text, the steps that it takes (`*` where it is no text of a code, `-` where it isn't built yet), and the
-// line that it prints.
+// One code a row: its blocks with ` | ` between them, their instructions with `; `; the steps that it takes, and the line that it
+// prints. Steps and kinds are counted by docs/MACHINE.md.
 static CODES: &[&str] = &[
-    "remora-code 1\nparams 0\nblocks 1\nblock 4\nprim +\nconst () 1\nconst () 2\napp ((shape) (shape)) (shape)\n => 7 => (array () 3)",
-    "remora-code 1\nparams 0\nblocks 1\nblock 4\nprim +\nconst (2 3) 1 2 3 4 5 6\nconst (2) 10 20\napp ((shape) (shape)) (shape)\n => 12 => (array (2 3) 11 12 13 24 25 26)",
-    "remora-code 1\nparams 0\nblocks 1\nblock 1\nprim +\n => 2 => (array () #fn)",
-    "remora-code 1\nparams 0\nblocks 1\nblock 4\nconst () 1\nconst () 2\nconst () 3\napp ((shape) (shape)) (shape)\n => 5 => stuck kind",
-    "remora-code 1\nparams 0\nblocks 1\nblock 4\nprim +\nconst (2) 1 2\nconst (3) 1 2 3\napp ((shape) (shape)) (shape)\n => 4 => stuck shape",
-    "remora-code 1\nparams 0\nblocks 1\nblock 1\napp ((shape)) (shape)\n => 1 => stuck operand",
+    "prim +; const () 1; const () 2; app ((shape) (shape)) (shape) => 7 => (array () 3)",
+    "prim +; const (2 3) 1 2 3 4 5 6; const (2) 10 20; app ((shape) (shape)) (shape) => 12 => (array (2 3) 11 12 13 24 25 26)",
+    "prim + => 2 => (array () #fn)",
+    "close tfn 1; tapp (shape) | global 2 | const () 7 => 9 => (array () 7)",
     // Maps and their steps.
-    "remora-code 1\nparams 0\nblocks 2\nblock 3\nclose fn 1 1\nconst (0)\napp ((shape)) (shape 2)\nblock 4\nvar 0\nroom (2)\nvar 0\nframe (2)\n => 4 => (array (0 2))",
-    "remora-code 1\nparams 0\nblocks 2\nblock 3\nclose fn 1 1\nconst (1) 7\napp ((shape)) (shape 2)\nblock 4\nvar 0\nroom (2)\nvar 0\nframe (2)\n => 11 => (array (1 2) 7 7)",
-    "remora-code 1\nparams 0\nblocks 1\nblock 1\narray (1)\n => 1 => stuck operand",
-    // Index values count from the innermost, and a later result has the dims of the first.
-    "remora-code 1\nparams 0\nblocks 3\nblock 3\nconst () 1\nbox 3 (shape 5)\nunbox 1 2 (shape)\nblock 3\nempty (shape %1 0)\nbox %0\nunbox 2 1 (shape)\nblock 1\nempty (++ %0 (shape 0))\n => 14 => (array (5 0))",
-    "remora-code 1\nparams 0\nblocks 3\nblock 3\nclose fn 1 1\nconst (2) 0 1\napp ((shape)) (shape)\nblock 7\nprim iota\niapp (1) (shape)\nvar 0\nroom (1)\nframe (1)\napp ((shape 1)) (shape)\nunbox 2 1 (shape)\nblock 1\nvar 0\n => 37 => stuck shape",
-    "remora-code 1\nparams 0\nblocks 3\nblock 3\nclose fn 1 1\nconst (2) 1 1\napp ((shape)) (shape)\nblock 7\nprim iota\niapp (1) (shape)\nvar 0\nroom (1)\nframe (1)\napp ((shape 1)) (shape)\nunbox 2 1 (shape)\nblock 1\nvar 0\n => 39 => (array (2 1) 0 0)",
+    "close fn 1 1; const (0); app ((shape)) (shape 2) | var 0; room (2); var 0; frame (2) => 4 => (array (0 2))",
+    "close fn 1 1; const (1) 7; app ((shape)) (shape 2) | var 0; room (2); var 0; frame (2) => 11 => (array (1 2) 7 7)",
+    // Index values count from the innermost.
+    "const () 1; box 3 (shape 5); unbox 1 2 (shape) | empty (shape %1 0); box %0; unbox 2 1 (shape) | empty (++ %0 (shape 0)) => 14 => (array (5 0))",
+    // Later results have the dims of the first.
+    "close fn 1 1; const (2) 0 1; app ((shape)) (shape) | prim iota; iapp (1) (shape); var 0; room (1); frame (1); app ((shape 1)) (shape); unbox 2 1 (shape) | var 0 => 37 => stuck shape",
+    "close fn 1 1; const (2) 1 1; app ((shape)) (shape) | prim iota; iapp (1) (shape); var 0; room (1); frame (1); app ((shape 1)) (shape); unbox 2 1 (shape) | var 0 => 39 => (array (2 1) 0 0)",
     // Folds: from the first item on, their function looked at when a turn applies it.
-    "remora-code 1\nparams 0\nblocks 1\nblock 6\nprim reduce\ntapp (shape)\niapp (2 (shape)) (shape)\nprim -\nconst (3) 1 2 3\napp ((shape) (shape 3)) (shape)\n => 16 => (array () -4)",
-    "remora-code 1\nparams 0\nblocks 1\nblock 6\nprim reduce\ntapp (shape)\niapp (0 (shape)) (shape)\nconst () 7\nconst (1) 5\napp ((shape) (shape 1)) (shape)\n => 14 => (array () 5)",
-    "remora-code 1\nparams 0\nblocks 1\nblock 6\nprim reduce\ntapp (shape)\niapp (1 (shape)) (shape)\nconst () 7\nconst (2) 5 6\napp ((shape) (shape 2)) (shape)\n => 12 => stuck kind",
-    "remora-code 1\nparams 0\nblocks 1\nblock 6\nprim reduce\ntapp (shape)\niapp (16777216 (shape 0)) (shape)\nprim +\nconst (16777217 0)\napp ((shape) (shape 16777217 0)) (shape 0)\n => 11 => trap size",
-    "remora-code 1\nparams 0\nblocks 1\nblock 7\nprim fold\ntapp (shape)\niapp (2 (shape) (shape)) (shape)\nprim div\nconst () 100\nconst (2) 5 0\napp ((shape) (shape) (shape 2)) (shape)\n => 14 => trap zero",
-    "remora-code 1\nparams 0\nblocks 1\nblock 7\nprim fold\ntapp (shape)\niapp (0 (shape) (shape)) (shape)\nprim div\nconst () 100\nconst (0)\napp ((shape) (shape) (shape 0)) (shape)\n => 15 => (array () 100)",
-    // The order of the cases within a step.
-    "remora-code 1\nparams 0\nblocks 1\nblock 3\nprim append\ntapp (shape)\ntapp (shape)\n => 6 => stuck kind",
-    "remora-code 1\nparams 0\nblocks 1\nblock 3\nprim iota\niapp (1) (shape)\niapp (1) (shape)\n => 6 => stuck kind",
-    "remora-code 1\nparams 0\nblocks 1\nblock 2\nconst () 1\niapp (4294967296) (shape)\n => 2 => trap size",
-    "remora-code 1\nparams 0\nblocks 1\nblock 4\nprim +\nconst (0)\nconst () 1\napp ((shape) (shape)) %0\n => 4 => stuck operand",
-    "remora-code 1\nparams 0\nblocks 1\nblock 4\nprim +\nconst () 1\nconst () 2\napp ((shape) (shape)) %0\n => 7 => (array () 3)",
-    "remora-code 1\nparams 0\nblocks 1\nblock 4\nprim +\nconst (2) 1 2\nconst (3) 1 2 3\napp ((shape) (shape)) %0\n => 4 => stuck shape",
-    "remora-code 1\nparams 0\nblocks 1\nblock 4\nprim +\nconst () 1\nconst () 2\napp ((shape 1) (shape %0)) (shape)\n => 4 => stuck operand",
-    "remora-code 1\nparams 0\nblocks 1\nblock 4\nprim +\nconst (2) 1 2\nconst () 1\napp ((shape 3) (shape 1)) (shape)\n => 4 => stuck rank",
-    // What is no text of a code, and a code with an input.
-    "remora-code 1\nparams 0\nblocks 1\nblock 1\nprim + => * => refused 33 5:7",
-    "remora-code 1\nparams 0\nblocks 1\nblock 1\nprim +\n\n => * => refused 32 6:1",
-    "remora-code 1\nparams 0\nblocks 1\nblock 1\nconst (01) 1\n => * => refused 32 5:9",
-    "remora-code 1\nparams 1\n(A Int (shape))\nblocks 1\nblock 1\nvar 0\n => - => -",
+    "prim reduce; tapp (shape); iapp (2 (shape)) (shape); prim -; const (3) 1 2 3; app ((shape) (shape 3)) (shape) => 16 => (array () -4)",
+    "prim reduce; tapp (shape); iapp (0 (shape)) (shape); const () 7; const (1) 5; app ((shape) (shape 1)) (shape) => 14 => (array () 5)",
+    "prim reduce; tapp (shape); iapp (1 (shape)) (shape); const () 7; const (2) 5 6; app ((shape) (shape 2)) (shape) => 12 => stuck kind",
+    "prim reduce; tapp (shape); iapp (16777216 (shape 0)) (shape); prim +; const (16777217 0); app ((shape) (shape 16777217 0)) (shape 0) => 11 => trap size",
+    "prim fold; tapp (shape); iapp (2 (shape) (shape)) (shape); prim div; const () 100; const (2) 5 0; app ((shape) (shape) (shape 2)) (shape) => 14 => trap zero",
+    "prim fold; tapp (shape); iapp (0 (shape) (shape)) (shape); prim div; const () 100; const (0); app ((shape) (shape) (shape 0)) (shape) => 15 => (array () 100)",
+    // Traps of instructions.
+    "const (2) 1 2; room (16777216) => 2 => trap size",
+    "const () 1; box 4294967296 => 2 => trap size",
+    "const () 1; iapp (4294967296) (shape) => 2 => trap size",
+    "empty (shape 4294967296 0) => 1 => trap size",
+    // Stuck: an operand, a variable or a block's result is missing, or one too many is there.
+    "app ((shape)) (shape) => 1 => stuck operand",
+    "array (1) => 1 => stuck operand",
+    "room (2) => 1 => stuck operand",
+    "unbox 0 1 (shape) => 1 => stuck operand",
+    "var 0 => 1 => stuck operand",
+    "const () 1; frame (2) => 2 => stuck operand",
+    "const () 1; const () 2 => 3 => stuck operand",
+    "close fn 1 1; const () 5; app ((shape)) (shape) | var 1 => 5 => stuck operand",
+    // Stuck: another number of arguments or indices is taken or hidden.
+    "close fn 1 2; const () 1; app ((shape)) (shape) | var 0 => 4 => stuck operand",
+    "close ifn 1 2; iapp (1) (shape) | const () 1 => 3 => stuck operand",
+    "const () 1; box 1 2; unbox 1 1 (shape) | var 0 => 4 => stuck operand",
+    "prim +; const () 1; app ((shape)) (shape) => 4 => stuck operand",
+    "prim iota; iapp (1 2) (shape) => 3 => stuck operand",
+    // Stuck: an index variable is missing, or of the other sort. What is missing comes first.
+    "empty (shape %0 0) => 1 => stuck operand",
+    "const () 1; box %0 => 2 => stuck operand",
+    "const () 1; iapp (%0) (shape) => 2 => stuck operand",
+    "prim +; const () 1; const () 2; app ((shape 1) (shape %0)) (shape) => 4 => stuck operand",
+    "const () 1; box (shape 5); unbox 1 1 (shape) | empty (shape %0 0) => 5 => stuck kind",
+    "const () 1; box 5; unbox 1 1 (shape) | empty (++ %0 (shape 0)) => 5 => stuck kind",
+    "const () 1; box (shape 5); unbox 1 1 (shape) | empty (shape %1 %0) => 5 => stuck operand",
+    // The result's shape is looked at where there is no cell.
+    "prim +; const (0); const () 1; app ((shape) (shape)) %0 => 4 => stuck operand",
+    "prim +; const () 1; const () 2; app ((shape) (shape)) %0 => 7 => (array () 3)",
+    "prim +; const (2) 1 2; const (3) 1 2 3; app ((shape) (shape)) %0 => 4 => stuck shape",
+    // Stuck: an atom of another kind.
+    "const () 1; const () 2; const () 3; app ((shape) (shape)) (shape) => 5 => stuck kind",
+    "close fn 1 1; tapp (shape) | var 0 => 3 => stuck kind",
+    "close tfn 1; iapp (1) (shape) | const () 1 => 3 => stuck kind",
+    "const () 1; unbox 1 1 (shape) | var 0 => 3 => stuck kind",
+    "prim +; const () 1; const () #t; app ((shape) (shape)) (shape) => 5 => stuck kind",
+    // Stuck: a primitive with other type or index arguments than its type's.
+    "prim length; const (1) 5; app ((shape 1)) (shape) => 4 => stuck kind",
+    "prim length; iapp (1 (shape)) (shape) => 3 => stuck kind",
+    "prim append; tapp (shape); tapp (shape) => 6 => stuck kind",
+    "prim iota; iapp (1) (shape); iapp (1) (shape) => 6 => stuck kind",
+    "prim iota; iapp ((shape)) (shape) => 3 => stuck kind",
+    // Stuck: arrays of other ranks or dims. All ranks are looked at before the dims.
+    "prim +; const (2) 1 2; const () 1; app ((shape 3) (shape 1)) (shape) => 4 => stuck rank",
+    "prim +; const (2) 1 2; const () 1; app ((shape 3) (shape)) (shape) => 4 => stuck shape",
+    "prim +; const (2) 1 2; const (3) 1 2 3; app ((shape) (shape)) (shape) => 4 => stuck shape",
+    "prim +; const (2) 1 2; const () 1; app ((shape 2) (shape)) (shape) => 5 => stuck shape",
+    "const (2) 1 2; array (1) => 2 => stuck shape",
+    "const () 1; const (1) 1; frame (2) => 3 => stuck shape",
+    "empty (shape 1) => 1 => stuck shape",
+    // Deep: boxes in one another, each with the one before it in two places, and functions that hold the one before them.
+    "close fn 1 1; prim fold; tapp (shape); iapp (20000 (shape) (shape)) (shape); close fn 2 2; const () 1; prim replicate; tapp (shape); iapp (20000 (shape)) (shape); const () 0; app ((shape)) (shape 20000); app ((shape) (shape) (shape 20000)) (shape); app ((shape)) (shape) | const () 7 | var 1; room (2); var 1; frame (2); box 2 => * => (array () 7)",
+    "prim fold; tapp (shape); iapp (20000 (shape) (shape)) (shape); close fn 1 2; close fn 3 1; prim replicate; tapp (shape); iapp (20000 (shape)) (shape); const () 0; app ((shape)) (shape 20000); app ((shape) (shape) (shape 20000)) (shape); const () 0; app ((shape)) (shape) | close fn 2 1 | var 2; prim +; const () 1; var 0; app ((shape) (shape)) (shape); app ((shape)) (shape) | var 0 => * => (array () 20000)",
 ];
 
-// The steps that a code takes.
-fn steps_of(alloc: Global, text: &[u8]) -> Result<u64, Fail> {
-    let Ok(code) = parse(alloc, text) else {
-        return Err(Fail::from("the text is refused"));
-    };
-    if !code.params().is_empty() {
-        return Err(Fail::from("the code has inputs"));
+/// The text of the code with these blocks, which has no params.
+pub fn code_text(alloc: Global, blocks: &str) -> Result<String, AllocError> {
+    let count = blocks.split(" | ").count();
+    let mut text = format!(in alloc; "remora-code 1\nparams 0\nblocks {count}\n")?;
+    for block in blocks.split(" | ") {
+        let count = block.split("; ").count();
+        write!(text, "block {count}\n")?;
+        for instruction in block.split("; ") {
+            write!(text, "{instruction}\n")?;
+        }
     }
-    let mut machine = load(alloc, &code, &[])?;
-    let _ended = machine.run(1000)?;
-    Ok(machine.steps())
+    Ok(text)
 }
 
 fn comes_to(rt: &impl Abort, alloc: Global, row: &str) -> Result<(), Fail> {
-    let (code, rest) = first(row)?;
+    let (blocks, rest) = first(row)?;
     let (steps, line) = first(rest)?;
-    ends(rt, alloc, "exec", code.as_bytes(), steps, line)?;
-    if let Ok(number) = steps.parse::<u64>() {
-        assert_eq!(rt; steps_of(alloc, code.as_bytes())?, number, "{row}");
-    }
-    Ok(())
+    let text = code_text(alloc, blocks)?;
+    ends(rt, alloc, "exec", text.as_bytes(), steps, line)
 }
 
 #[test]
@@ -76,13 +111,4 @@ fn codes_end_after_their_steps(rt: HostRuntime) -> Result<(), Fail> {
         comes_to(&rt, rt.alloc(), row)?;
     }
     Ok(())
-}
-
-// The code that docs/LANGUAGE.md, "The machine", gives as an example.
-#[test]
-fn the_code_of_a_program(rt: HostRuntime) -> Result<(), Fail> {
-    let source = b"(main () (+ (array (2 3) 1 2 3 4 5 6) (array (2) 10 20)))";
-    let code =
-        "remora-code 1\nparams 0\nblocks 1\nblock 4\nprim +\nconst (2 3) 1 2 3 4 5 6\nconst (2) 10 20\napp ((shape) (shape)) (shape)";
-    prints(&rt, rt.alloc(), "build f", source, code)
 }

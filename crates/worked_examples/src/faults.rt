@@ -1,70 +1,49 @@
-// Sources and sinks, and calls over some that fail.
-use rem_base::{
-    MemSink, MemSource, ReadRefusal, ReadSource, Sink, SureSink, SureSource, WriteFault, WriteSink,
-    read_all, write_all,
-};
-use remora_driver::remora;
+// Sources and sinks that fail, and those over a reader and a writer.
+use rem_base::{MemSink, MemSource, ReadSource, SureSource, WriteSink, read_all};
+use remora_driver::{Status, remora};
+use std::alloc::{AllocError, Global};
 use std::test::Fail;
 
-#[test]
-fn reads_to_the_end(rt: HostRuntime) -> Result<(), Fail> {
-    let alloc = rt.alloc();
-    let remora = b"remora".as_slice();
-    let mut slow = MemSource::new(remora.to_vec(alloc)?, 4, Vec::new(alloc));
-    assert_eq!(rt; read_all(alloc, &mut slow, 6)?.as_slice(), remora);
-    let mut long = SureSource::new(remora.to_vec(alloc)?);
-    assert_eq!(rt;
-        read_all(alloc, &mut long, 5).err(),
-        Some(ReadRefusal::TooLong)
-    );
-    let mut failing = MemSource::new(remora.to_vec(alloc)?, 4, vec![in alloc; 2]?);
-    assert_eq!(rt;
-        read_all(alloc, &mut failing, 6).err(),
-        Some(ReadRefusal::ReadFault)
-    );
-    // No read came behind the one that failed.
-    assert_eq!(rt;
-        read_all(alloc, &mut failing, 6)?.as_slice(),
-        b"ra".as_slice()
-    );
-    let mut adapted = ReadSource::new(remora);
-    assert_eq!(rt; read_all(alloc, &mut adapted, 6)?.as_slice(), remora);
-    Ok(())
-}
+const SOURCE: &[u8] = b"(main () 1)";
 
-#[test]
-fn writes_the_whole_text(rt: HostRuntime) -> Result<(), Fail> {
-    let alloc = rt.alloc();
-    let mut slow = MemSink::new(alloc, 6, 4, Vec::new(alloc))?;
-    write_all(&mut slow, b"remora")?;
-    assert_eq!(rt; slow.written(), b"remora".as_slice());
-    let mut failing = MemSink::new(alloc, 6, 4, vec![in alloc; 2]?)?;
-    assert_eq!(rt; write_all(&mut failing, b"remora"), Err(WriteFault));
-    assert_eq!(rt; failing.written(), b"remo".as_slice());
-    let mut adapted = WriteSink::new(Vec::new(alloc));
-    write_all(&mut adapted, b"remora")?;
-    assert_eq!(rt; SureSink::new().write(b"remora"), Ok(6));
-    Ok(())
+// The words `run f`.
+fn run(alloc: Global) -> Result<Vec<String>, AllocError> {
+    let mut words = Vec::new(alloc);
+    for word in ["run", "f"] {
+        words.push(String::from_str(alloc, word)?)?;
+    }
+    Ok(words)
 }
 
 #[test]
 fn faults_end_a_call(rt: HostRuntime) -> Result<(), Fail> {
     let alloc = rt.alloc();
-    let words = vec![in alloc;
-        String::from_str(alloc, "run")?,
-        String::from_str(alloc, "f")?,
-    ]?;
-    let source = b"(main () 1)".as_slice();
+    let words = run(alloc)?;
     let mut input = SureSource::new(Vec::new(alloc));
-    let mut failing = MemSource::new(source.to_vec(alloc)?, 4, vec![in alloc; 2]?);
+    let mut failing = MemSource::new(SOURCE.to_vec(alloc)?, 4, vec![in alloc; 2]?);
     let mut out = MemSink::new(alloc, 64, 64, Vec::new(alloc))?;
     let status = remora(alloc, words.as_slice(), &mut failing, &mut input, &mut out);
-    assert_eq!(rt; status.code(), 4);
+    assert_eq!(rt; status, Status::ReadFault);
     assert_eq!(rt; out.written(), b"".as_slice());
-    let mut program = SureSource::new(source.to_vec(alloc)?);
+    // No read came behind the one that failed.
+    let rest = read_all(alloc, &mut failing, 11)?;
+    assert_eq!(rt; rest.as_slice(), b"n () 1)".as_slice());
+    let mut program = SureSource::new(SOURCE.to_vec(alloc)?);
     let mut full = MemSink::new(alloc, 64, 5, vec![in alloc; 2]?)?;
     let status = remora(alloc, words.as_slice(), &mut program, &mut input, &mut full);
-    assert_eq!(rt; status.code(), 5);
+    assert_eq!(rt; status, Status::WriteFault);
     assert_eq!(rt; full.written(), b"(arra".as_slice());
+    Ok(())
+}
+
+#[test]
+fn a_reader_and_a_writer(rt: HostRuntime) -> Result<(), Fail> {
+    let alloc = rt.alloc();
+    let words = run(alloc)?;
+    let mut program = ReadSource::new(SOURCE);
+    let mut input = ReadSource::new(b"".as_slice());
+    let mut out = WriteSink::new(Vec::new(alloc));
+    let status = remora(alloc, words.as_slice(), &mut program, &mut input, &mut out);
+    assert_eq!(rt; status, Status::Ok);
     Ok(())
 }

@@ -6,6 +6,9 @@ use std::test::Fail;
 // So many applications in one another.
 const SUMS: [&str; 5] = ["(main () ", "(+ 0 ", "1", ")", ")"];
 
+// So many functions in one another, each applied at once.
+const NESTED: [&str; 5] = ["(main () ", "((fn ((x Int)) Int ", "1", ") 2)", ")"];
+
 // A literal of so many dimensions, with one atom.
 const RANK: [&str; 5] = ["(main () (array (", "1 ", ") 1))", "", ""];
 
@@ -24,8 +27,12 @@ const INDEX: [&str; 5] = [
 const BLANKS: [&str; 5] = ["", " ", "", "", ""];
 
 // A command, a source whose second and fourth part are there so many times, and what is printed.
-static LARGE: [(&str, usize, [&str; 5], &str); 8] = [
+static LARGE: [(&str, usize, [&str; 5], &str); 12] = [
+    ("check f", 255, SUMS, "ok (A Int (shape))"),
     ("run f", 255, SUMS, "(array () 1)"),
+    ("reduce f", 255, SUMS, "(array () 1)"),
+    ("run f", 126, NESTED, "(array () 1)"),
+    ("reduce f", 126, NESTED, "(array () 1)"),
     ("run f", 256, SUMS, "refused 5 1:1285"),
     ("run f", 65, RANK, "refused 12 1:146"),
     ("check f", 16382, INPUT, "refused 16 1:11"),
@@ -69,8 +76,8 @@ fn twice(alloc: Global, depth: u32) -> Result<String, AllocError> {
         alloc,
         "(define d0 (-> ((-> (Int) Int)) (-> (Int) Int)) (fn ((f (-> (Int) Int))) (-> (Int) Int) (fn ((x Int)) Int (f x))))\n",
     )?;
-    for k in 1..=depth {
-        let before = k - 1;
+    for before in 0..depth {
+        let k = before + 1;
         write!(
             source,
             "(define d{k} (-> ((-> (Int) Int)) (-> (Int) Int)) (fn ((f (-> (Int) Int))) (-> (Int) Int) (d{before} (d{before} f))))\n"
@@ -86,11 +93,11 @@ fn twice(alloc: Global, depth: u32) -> Result<String, AllocError> {
 // Each definition gives the one before it a type that nests 100 functions deeper than its own.
 fn deeper(alloc: Global, count: u32) -> Result<String, AllocError> {
     let mut source = String::from_str(alloc, "(define f0 (Forall (t) Int) (tfn (t) 1))\n")?;
-    for k in 1..=count {
+    for before in 0..count {
+        let k = before + 1;
         write!(
             source,
-            "(define f{k} (Forall (t) Int) (tfn (t) (t-app f{} ",
-            k - 1
+            "(define f{k} (Forall (t) Int) (tfn (t) (t-app f{before} "
         )?;
         repeat(&mut source, "(-> (", 100)?;
         source.push('t')?;

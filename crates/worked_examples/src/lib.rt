@@ -2,8 +2,6 @@
 #![tactic(auto)]
 
 #[cfg(test)]
-mod boxes;
-#[cfg(test)]
 mod call;
 #[cfg(test)]
 mod codes;
@@ -14,10 +12,14 @@ mod faults;
 #[cfg(test)]
 mod large;
 #[cfg(test)]
-mod parts;
+mod library;
+#[cfg(test)]
+mod programs;
 #[cfg(test)]
 mod refusals;
 #[cfg(test)]
 mod row;
+#[cfg(test)]
+mod texts;
 #[cfg(test)]
 mod words;

@@ -104,5 +104,11 @@ fn sources_are_refused_at_their_first_fault(rt: HostRuntime) -> Result<(), Fail>
     for row in REFUSED.iter() {
         refused(&rt, rt.alloc(), row)?;
     }
-    Ok(())
+    prints(
+        &rt,
+        rt.alloc(),
+        "check f",
+        b"(main () \xff)",
+        "refused 1 1:10",
+    )
 }

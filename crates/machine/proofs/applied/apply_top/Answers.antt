@@ -1,4 +1,4 @@
-use Rattle.std.proofs.Common.{ap, sym, ◌∙◌, reverse, List}
+use Rattle.std.proofs.Common.{ap, ◌∙◌, reverse, List}
 use Rattle.core_syntax.specs.Lists.{each}
 use Rattle.array_values.specs.Values.{Array}
 use Rattle.machine_table.specs.Instructions as begins

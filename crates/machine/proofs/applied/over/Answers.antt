@@ -1,4 +1,4 @@
-use Rattle.std.proofs.Common.{ap, sym, ◌∙◌, ◌+◌, ◌^◌, min}
+use Rattle.std.proofs.Common.{ap, ◌∙◌, ◌+◌, ◌^◌, min}
 use Rattle.core_syntax.specs.Lists.{each}
 use Rattle.array_values.specs.Envs.{index_data}
 use Rattle.array_values.specs.Forms.{cells}

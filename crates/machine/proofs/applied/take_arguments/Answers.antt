@@ -1,11 +1,10 @@
-use Rattle.std.proofs.Common.{◌≡◌, ℕ, refl, ap, sym, subst, ◌∙◌, [], ◌∷◌, ◌++◌, ◌-◌, suc, List, length, drop, take, reverse, arith}
+use Rattle.std.proofs.Common.{◌≡◌, ℕ, ap, sym, subst, ◌∙◌, ◌-◌, length, drop, take, reverse, arith}
 use Rattle.core_syntax.specs.Lists.{each}
 use Rattle.array_values.specs.Envs.{index_data}
 use Rattle.machine_table.specs.Indices.{shape_under}
 use Rattle.machine_table.specs.Machine.{pop}
 use Rattle.machine.specs.Applied.{Fitting, array_of}
-use Rattle.machine.specs.declared.state.Argument.{Argument}
-use Rattle.machine.proofs.Takes.{none_taken, front_whole, last_split, front_more, values_more, count_more, pop_more, fits_more, all_taken, found_popped}
+use Rattle.machine.proofs.Takes.{none_taken, front_whole, last_split, front_more, count_more, pop_more, fits_more, all_taken, found_popped}
 use Rattle.machine.proofs.applied.take_arguments.Goals as goal
 
 pub loop-rest-init : goal.loop-rest-init

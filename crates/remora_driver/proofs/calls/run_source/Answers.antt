@@ -1,6 +1,5 @@
-use Rattle.std.proofs.Common.{refl, subst, sym, Err}
+use Rattle.std.proofs.Common.{refl, subst, Err}
 use Rattle.std.specs.Prelude.{⊤}
-use Rattle.machine_table.specs.Codes.{Code}
 use Rattle.remora_driver.specs.Calls.{HasCode}
 use Rattle.remora_driver.specs.Due.{IsCodeDue, IsRunDue, run_refused}
 use Rattle.remora_driver.specs.Sources.{Compiles}

@@ -1,4 +1,4 @@
-use Rattle.std.proofs.Common.{subst, Err}
+use Rattle.std.proofs.Common.{subst}
 use Rattle.remora_driver.specs.Calls.{RefusesBuild}
 use Rattle.remora_driver.specs.Due.{refused}
 use Rattle.remora_driver.proofs.Dues.{built_due}

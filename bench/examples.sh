@@ -1,0 +1,52 @@
+#!/bin/sh
+# Runs the command lines that examples/ and docs/TUTORIAL.md show, and compares what they print with the lines shown below
+# them. It also compares the programs that crate worked_examples runs with those of examples/. It is no part of the gate,
+# and fails where something differs.
+#
+# usage: bench/examples.sh [PROGRAM]    PROGRAM stands for ./remora
+set -eu
+top=$(dirname -- "$(dirname -- "$(readlink -f -- "$0")")")
+program=$(readlink -f -- "${1:-$top/remora}")
+work=$(mktemp -d)
+trap 'rm -rf "$work"' EXIT
+cd "$work"
+ln -s "$program" remora
+ln -s "$top/examples" examples
+failed=0
+
+# Writes each command line that a text shows to N.command, and the lines below it to N.due. A line of an example's comment
+# begins with `;   `, one of the tutorial stands alone; an empty line or the end of the block ends what is shown.
+shown() {
+    rm -f ./*.command ./*.due
+    awk '
+        { sub(/^;   /, "") }
+        /^\$ / { file = sprintf("%03d", ++n); print substr($0, 3) >(file ".command"); printf "" >(file ".due"); next }
+        /^(;|```)?$/ { file = "" }
+        file { print >(file ".due") }' "$1"
+}
+
+for text in examples/*.remora "$top/docs/TUTORIAL.md"; do
+    shown "$text"
+    for command in *.command; do
+        [ -e "$command" ] || continue
+        sh "$command" >printed 2>/dev/null || true
+        if ! cmp -s printed "${command%.command}.due"; then
+            echo "$text: $(cat "$command") prints $(cat printed)" >&2
+            failed=1
+        fi
+    done
+done
+
+# A program without its comments and empty lines stands in the table of worked_examples.
+table=$(cat "$top/crates/worked_examples/src/programs.rt")
+for text in examples/*.remora; do
+    source=$(sed '/^;/d; /^$/d' "$text")
+    case $table in
+        *"\"$source\""*) ;;
+        *)
+            echo "$text: worked_examples has another text" >&2
+            failed=1
+            ;;
+    esac
+done
+exit $failed
