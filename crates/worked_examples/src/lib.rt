@@ -6,6 +6,8 @@ mod call;
 #[cfg(test)]
 mod codes;
 #[cfg(test)]
+mod data;
+#[cfg(test)]
 mod examples;
 #[cfg(test)]
 mod faults;
