@@ -3,7 +3,7 @@ use Rattle.std.proofs.Common.{◌≡◌, ℕ, zero, suc, ◌+◌, ◌-◌, ◌^�
 use Rattle.std.specs.List.{slice_get}
 use Rattle.std.specs.Fmt.{decimal}
 use Rattle.std.proofs.Math.Seq.{drop-append_seam}
-use Rattle.std.proofs.lemmas.Bool.{ltb-true, lt-ltb, le-leb, gt-leb, ltb_from_iff}
+use Rattle.std.proofs.lemmas.Bool.{ltb-true, lt-ltb, le-leb, lt-leb, ltb_from_iff}
 use Rattle.std.proofs.lemmas.List.{reverse-append, length-reverse}
 use Rattle.std.proofs.lemmas.Option.{slice_get_within, get_or_from_slice_get}
 use Rattle.core_syntax.specs.declared.index.Sort.{Sort}
@@ -74,7 +74,7 @@ module _ (s : Sort) (top : ℕ) (bs : List Sort) (i : ℕ) (b : Sort) (here : sl
 
   -- its number is too large
   pub too_large : same_sort b s ≡ true → top < i → candidates s top i (drop i bs) ≡ candidates s top (i + 1) (drop (i + 1) bs)
-  too_large same lt = from_here false (ap (λ (c : Bool). c && nat_le i top) same ∙ gt-leb i top lt)
+  too_large same lt = from_here false (ap (λ (c : Bool). c && nat_le i top) same ∙ lt-leb i top lt)
 
 -- ---- a whole number
 
