@@ -111,15 +111,15 @@ some_runs k (letter.Dim d) ls = go (runs ls)
     go (Single j ∷ rs) = tt
 
 -- the runs of such a word are no variable alone
-pub word_runs : (w : Word) → code_index (norm.Shape w) ≡ index.Shape w → NoSingle (runs w)
-word_runs [] e = tt
-word_runs (letter.Var k ∷ []) e = cc
-word_runs (letter.Var k ∷ l ∷ ls) e = some_runs k l ls
-word_runs (letter.Dim d ∷ ls) e = with_dim_some d (runs ls)
+pub shape_runs : (w : Word) → code_index (norm.Shape w) ≡ index.Shape w → NoSingle (runs w)
+shape_runs [] e = tt
+shape_runs (letter.Var k ∷ []) e = cc
+shape_runs (letter.Var k ∷ l ∷ ls) e = some_runs k l ls
+shape_runs (letter.Dim d ∷ ls) e = with_dim_some d (runs ls)
 
 -- and a word whose runs are none is the index itself
-pub runs_word : (w : Word) → NoSingle (runs w) → code_index (norm.Shape w) ≡ index.Shape w
-runs_word [] h = refl
-runs_word (letter.Var k ∷ []) h = absurd h
-runs_word (letter.Var k ∷ l ∷ ls) h = refl
-runs_word (letter.Dim d ∷ ls) h = refl
+pub runs_shape : (w : Word) → NoSingle (runs w) → code_index (norm.Shape w) ≡ index.Shape w
+runs_shape [] h = refl
+runs_shape (letter.Var k ∷ []) h = absurd h
+runs_shape (letter.Var k ∷ l ∷ ls) h = refl
+runs_shape (letter.Dim d ∷ ls) h = refl
