@@ -96,8 +96,9 @@ impl Binders {
     pub(crate) fn pop(&mut self)
         ensures { self.new ≡ drop 1 self.old }
     {
-        if let Some(Sort::Dim) = self.sorts.pop() {
-            self.dims -= 1;
+        match self.sorts.pop() {
+            Some(Sort::Dim) => self.dims -= 1,
+            Some(Sort::Shape) | None => {}
         }
     }
 
