@@ -1,5 +1,5 @@
 -- The text of codes as a reader meets it.
-use Rattle.std.proofs.Common.{◌≡◌, ℕ, List, [], ◌∷◌, ◌++◌, length, ap, ◌∙◌, refl}
+use Rattle.std.proofs.Common.{◌≡◌, ℕ, List, [], ◌∷◌, ◌++◌, length, ap, ◌∙◌, refl, append_assoc}
 use Rattle.std.specs.Prelude.{codes, flat_map}
 use Rattle.std.specs.Fmt.{decimal}
 use Rattle.std.proofs.lemmas.List.{append-nil}
@@ -13,11 +13,11 @@ use Rattle.machine_table.specs.declared.code.Instr.TheVariants as instr
 use Rattle.machine_table.specs.declared.code.Block.{Block}
 use Rattle.machine_table.specs.Codes.{Code, Param}
 use Rattle.machine_table.specs.IndexBounds.{InBlock}
-use Rattle.code_text.specs.Spelling.{spaced}
+use Rattle.code_text.specs.Spelling.{spaced, bracketed, lines}
 use Rattle.code_text.specs.IndexText.{name_text}
 use Rattle.code_text.specs.ParamText.{param_text}
 use Rattle.code_text.specs.Text.{literal_text, primitive_text, index_text, dims_text, cell_text, instr_text, block_text, code_text}
-use Rattle.code_text.proofs.forms.Lists.{listed, bracketed_is}
+use Rattle.code_text.proofs.forms.Lists.{listed, bracketed_is, beside}
 use Rattle.code_text.proofs.forms.IndexForms.{dim_form, shape_form, dim_is, shape_is}
 use Rattle.code_text.proofs.forms.ParamForms.{param_form, param_is}
 
@@ -96,17 +96,27 @@ instr_is (instr.Room dims) = ap (λ v. codes "room " ++ v) (dims_is dims)
 instr_is (instr.Frame dims) = ap (λ v. codes "frame " ++ v) (dims_is dims)
 instr_is (instr.Empty shape) = ap (λ v. codes "empty " ++ v) (shape_is InBlock shape)
 instr_is (instr.App cs result) =
-    ap (λ v. codes "app " ++ (v ++ 32 ∷ cell_text result)) (bracketed_is cell_text cs) ∙ ap (λ (t : Word → List ℕ). codes "app (" ++ (listed 41 t cs ++ 32 ∷ t result)) cells
+    ap (λ v. codes "app " ++ v) (append_assoc (bracketed cell_text cs) (codes " ") (cell_text result))
+    ∙ ap (λ v. codes "app " ++ (v ++ 32 ∷ cell_text result)) (bracketed_is cell_text cs)
+    ∙ ap (λ (t : Word → List ℕ). codes "app (" ++ (listed 41 t cs ++ 32 ∷ t result)) cells
 instr_is (instr.TypeApp result) = ap (λ v. codes "tapp " ++ v) (shape_is InBlock result)
 instr_is (instr.IndexApp is result) =
-    ap (λ v. codes "iapp " ++ (v ++ 32 ∷ cell_text result)) (bracketed_is index_text is)
+    ap (λ v. codes "iapp " ++ v) (append_assoc (bracketed index_text is) (codes " ") (cell_text result))
+    ∙ ap (λ v. codes "iapp " ++ (v ++ 32 ∷ cell_text result)) (bracketed_is index_text is)
     ∙ ap (λ (t : CodeIndex → List ℕ). codes "iapp (" ++ (listed 41 t is ++ 32 ∷ cell_text result)) indices
     ∙ ap (λ v. codes "iapp (" ++ (listed 41 index_form is ++ 32 ∷ v)) (shape_is InBlock result)
-instr_is (instr.Unbox block count result) = ap (λ v. codes "unbox " ++ (decimal block ++ 32 ∷ (decimal count ++ 32 ∷ v))) (shape_is InBlock result)
+instr_is (instr.Unbox block count result) =
+    ap (λ v. codes "unbox " ++ v) (append_assoc ((decimal block ++ codes " ") ++ decimal count) (codes " ") (cell_text result) ∙ beside (decimal block) (decimal count) (32 ∷ cell_text result))
+    ∙ ap (λ v. codes "unbox " ++ (decimal block ++ 32 ∷ (decimal count ++ 32 ∷ v))) (shape_is InBlock result)
 
 block_is : (b : Block) → block_text b ≡ block_form b
 block_is b =
-    let each : instr_text ≡ instr_form = λ i x. instr_is x i in ap (λ (t : Instr → List ℕ). codes "block " ++ (decimal (length b.steps) ++ 10 ∷ flat_map (λ x. t x ++ 10 ∷ []) b.steps)) each
+    let each : instr_text ≡ instr_form = λ i x. instr_is x i in
+    ap (λ v. codes "block " ++ v) (append_assoc (decimal (length b.steps)) (codes "\n") (lines instr_text b.steps))
+    ∙ ap (λ (t : Instr → List ℕ). codes "block " ++ (decimal (length b.steps) ++ 10 ∷ flat_map (λ x. t x ++ 10 ∷ []) b.steps)) each
+
+in_a_row : (a b c d e f g : List ℕ) → (((((a ++ b) ++ c) ++ d) ++ e) ++ f) ++ g ≡ a ++ (b ++ (c ++ (d ++ (e ++ (f ++ g)))))
+in_a_row a b c d e f g = simp append_assoc
 
 -- The text of a code is what a reader meets.
 pub code_is : (c : Code) → code_text c ≡ code_form c
@@ -114,5 +124,6 @@ code_is c =
     let params : param_text ≡ param_form = λ i p. param_is p i in
     let blocks : block_text ≡ block_form = λ i b. block_is b i in
     let rest = codes "blocks " ++ (decimal (length c.blocks) ++ 10 ∷ flat_map block_text c.blocks) in
-    ap (λ (t : Param → List ℕ). codes "remora-code 1" ++ 10 ∷ (codes "params " ++ (decimal (length c.params) ++ 10 ∷ (flat_map (λ p. t p ++ 10 ∷ []) c.params ++ rest)))) params
+    ap (λ v. codes "remora-code 1\nparams " ++ v) (in_a_row (decimal (length c.params)) (codes "\n") (lines param_text c.params) (codes "blocks ") (decimal (length c.blocks)) (codes "\n") (flat_map block_text c.blocks))
+    ∙ ap (λ (t : Param → List ℕ). codes "remora-code 1" ++ 10 ∷ (codes "params " ++ (decimal (length c.params) ++ 10 ∷ (flat_map (λ p. t p ++ 10 ∷ []) c.params ++ rest)))) params
     ∙ ap (λ (t : Block → List ℕ). codes "remora-code 1" ++ 10 ∷ (codes "params " ++ (decimal (length c.params) ++ 10 ∷ (flat_map param_line_form c.params ++ (codes "blocks " ++ (decimal (length c.blocks) ++ 10 ∷ flat_map t c.blocks)))))) blocks

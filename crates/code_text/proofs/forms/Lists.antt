@@ -26,4 +26,8 @@ pub bracketed_is : {A : Type 0} (t : A → List ℕ) (xs : List A) → bracketed
 bracketed_is t xs = ap (λ v. codes "(" ++ v) (listed_is 41 t xs)
 
 pub headed_is : {A : Type 0} (t : A → List ℕ) (word : List ℕ) (xs : List A) → headed t word xs ≡ codes "(" ++ (word ++ until 41 t xs)
-headed_is t word xs = ap (λ v. codes "(" ++ (word ++ v)) (until_is 41 t xs)
+headed_is t word xs = ap (λ v. codes "(" ++ v) (append_assoc word (spaced t xs) (codes ")") ∙ ap (λ v. word ++ v) (until_is 41 t xs))
+
+-- what stands behind a space and before an end
+pub beside : (front text end : List ℕ) → ((front ++ codes " ") ++ text) ++ end ≡ front ++ (32 ∷ (text ++ end))
+beside front text end = append_assoc (front ++ codes " ") text end ∙ append_assoc front (codes " ") (text ++ end)

@@ -11,6 +11,7 @@ use Rattle.machine_table.specs.IndexBounds.{Under, under}
 use Rattle.code_text.specs.Spelling.{spaced, separated}
 use Rattle.code_text.specs.IndexText.{shape_text}
 use Rattle.code_text.specs.ParamText.{binder_text, numbered, around_text, param_text}
+use Rattle.code_text.proofs.forms.Lists.{beside}
 use Rattle.code_text.proofs.forms.IndexForms.{shape_form, shape_is}
 
 -- a binder, by its number from outside
@@ -37,24 +38,38 @@ around_form binders (x ∷ xs) b shape =
 abbrev pub param_form : Param → List ℕ
 param_form p = around_form [] p.boxes p.base p.shape
 
+binder_is : (n : ℕ) (s : Sort) → binder_text (record { number = n; sort = s }) ≡ binder_form n s
+binder_is n s = ap (λ v. codes "(i" ++ v) (beside (decimal n) (sort_text s) (codes ")"))
+
+-- a binder, and the others
+one_more : (n : ℕ) (s : Sort) (ss : List Sort) → spaced binder_text (numbered (suc n) ss) ++ 41 ∷ [] ≡ more_binders_form (suc n) ss → (binder_text (record { number = n; sort = s }) ++ spaced binder_text (numbered (suc n) ss)) ++ 41 ∷ [] ≡ binder_form n s ++ more_binders_form (suc n) ss
+one_more n s ss e =
+    append_assoc (binder_text (record { number = n; sort = s })) (spaced binder_text (numbered (suc n) ss)) (41 ∷ [])
+    ∙ ap (λ v. v ++ (spaced binder_text (numbered (suc n) ss) ++ 41 ∷ [])) (binder_is n s)
+    ∙ ap (λ v. binder_form n s ++ v) e
+
 more_is : (n : ℕ) (ss : List Sort) → spaced binder_text (numbered n ss) ++ 41 ∷ [] ≡ more_binders_form n ss
 more_is n [] = refl
-more_is n (s ∷ ss) = ap (λ v. 32 ∷ v) (append_assoc (binder_form n s) (spaced binder_text (numbered (suc n) ss)) (41 ∷ []) ∙ ap (λ v. binder_form n s ++ v) (more_is (suc n) ss))
+more_is n (s ∷ ss) = ap (λ v. 32 ∷ v) (one_more n s ss (more_is (suc n) ss))
 
 binders_is : (n : ℕ) (ss : List Sort) → separated binder_text (numbered n ss) ++ 41 ∷ [] ≡ binders_form n ss
 binders_is n [] = refl
-binders_is n (s ∷ ss) = append_assoc (binder_form n s) (spaced binder_text (numbered (suc n) ss)) (41 ∷ []) ∙ ap (λ v. binder_form n s ++ v) (more_is (suc n) ss)
+binders_is n (s ∷ ss) = one_more n s ss (more_is (suc n) ss)
 
 regroup : (bs r s : List ℕ) → (bs ++ (32 ∷ (r ++ codes ")"))) ++ (32 ∷ s) ≡ bs ++ (32 ∷ (r ++ (codes ") " ++ s)))
 regroup bs r s = append_assoc bs (32 ∷ (r ++ codes ")")) (32 ∷ s) ∙ ap (λ v. bs ++ (32 ∷ v)) (append_assoc r (codes ")") (32 ∷ s))
 
 around_is : (binders : List Sort) (xs : List Boxes) (b : Base) (shape : Word) → around_text binders xs b shape ≡ around_form binders xs b shape
-around_is binders [] b shape = ap (λ v. codes "(A " ++ (base_text b ++ 32 ∷ (v ++ 41 ∷ []))) (shape_is (Under binders) shape)
+around_is binders [] b shape =
+    ap (λ v. codes "(A " ++ v) (beside (base_text b) (shape_text (Under binders) shape) (codes ")"))
+    ∙ ap (λ v. codes "(A " ++ (base_text b ++ 32 ∷ (v ++ 41 ∷ []))) (shape_is (Under binders) shape)
 around_is binders (x ∷ xs) b shape =
     let bs = separated binder_text (numbered (length binders) x.sorts) ++ 41 ∷ [] in
     let r = around_text (under x.sorts binders) xs b shape in
     let s = shape_text (Under binders) x.shape ++ 41 ∷ [] in
-    ap (λ v. codes "(A (Sigma (" ++ v) (regroup bs r s)
+    ap (λ v. codes "(A " ++ v) (beside (codes "(Sigma " ++ (((40 ∷ bs) ++ codes " ") ++ r) ++ codes ")") (shape_text (Under binders) x.shape) (codes ")"))
+    ∙ ap (λ v. codes "(A (Sigma " ++ (v ++ 32 ∷ s)) (beside (40 ∷ bs) r (codes ")"))
+    ∙ ap (λ v. codes "(A (Sigma (" ++ v) (regroup bs r s)
     ∙ ap (λ v. codes "(A (Sigma (" ++ (v ++ 32 ∷ (r ++ (codes ") " ++ s)))) (binders_is (length binders) x.sorts)
     ∙ ap (λ v. codes "(A (Sigma (" ++ (binders_form (length binders) x.sorts ++ 32 ∷ (v ++ (codes ") " ++ s)))) (around_is (under x.sorts binders) xs b shape)
     ∙ ap (λ v. codes "(A (Sigma (" ++ (binders_form (length binders) x.sorts ++ 32 ∷ (around_form (under x.sorts binders) xs b shape ++ (codes ") " ++ (v ++ 41 ∷ []))))) (shape_is (Under binders) x.shape)

@@ -12,7 +12,7 @@ use Rattle.code_text.proofs.indices.Sums.{IsVarUpTo}
 use Rattle.code_text.proofs.indices.Dims.{Scoped}
 use Rattle.code_text.proofs.types.Binders.{Among, name_of, among_codec}
 
-sort_is : (a b : Sort) → same_sort a b ≡ true → a ≡ b
+pub sort_is : (a b : Sort) → same_sort a b ≡ true → a ≡ b
 sort_is sort.Dim sort.Dim e = refl
 sort_is sort.Shape sort.Shape e = refl
 sort_is sort.Dim sort.Shape e = absurd (false≢true e)

@@ -4,7 +4,7 @@ use Rattle.std.specs.List.{slice_get}
 use Rattle.std.specs.Fmt.{decimal}
 use Rattle.std.proofs.Math.Seq.{drop-append_seam}
 use Rattle.std.proofs.lemmas.Bool.{ltb-true, lt-ltb, le-leb, lt-leb, ltb_from_iff}
-use Rattle.std.proofs.lemmas.List.{reverse-append, length-reverse, get_or-reverse}
+use Rattle.std.proofs.lemmas.List.{reverse-append, length-reverse, get_or-reverse, drop-drop}
 use Rattle.std.proofs.lemmas.Option.{slice_get_within, slice_get_read, get_or_from_slice_get}
 use Rattle.core_syntax.specs.declared.index.Sort.{Sort}
 use Rattle.core_syntax.specs.declared.index.Sort.TheVariants as sort
@@ -53,9 +53,7 @@ pub one_under : (s : Sort) (ss bs : List Sort) → under ss (s ∷ bs) ≡ under
 one_under s ss bs = sym (ap (λ x. x ++ bs) (reverse-append (s ∷ []) ss) ∙ append_assoc (reverse ss) (s ∷ []) bs)
 
 pub one_dropped : (n : ℕ) (bs : List Sort) → drop 1 (drop n bs) ≡ drop (n + 1) bs
-one_dropped zero bs = refl
-one_dropped (suc n) [] = refl
-one_dropped (suc n) (b ∷ bs) = one_dropped n bs ∙ ap (λ (m : ℕ). drop m bs) (add-one n) ∙ ap (λ (m : ℕ). drop m (b ∷ bs)) (sym (add-one (suc n)))
+one_dropped n bs = drop-drop 1 n bs
 
 pub left_again : (ss bs : List Sort) → drop (length ss) (under ss bs) ≡ bs
 left_again ss bs = ap (λ (n : ℕ). drop n (reverse ss ++ bs)) (sym (length-reverse ss)) ∙ drop-append_seam (reverse ss) bs
