@@ -1,5 +1,5 @@
 // The binders that are in scope of an index.
-ghost use Rattle.std.specs.Prelude.{◌≡◌, ◌<◌, ◌≤◌, ◌∷◌, [], Some, drop, length, slice_get, OnOk};
+ghost use Rattle.std.specs.Prelude.{◌≡◌, ◌<◌, ◌≤◌, ◌^◌, ◌∷◌, [], Some, drop, length, slice_get, OnOk};
 ghost use Rattle.machine_table.specs.IndexBounds.{under};
 ghost use Rattle.code_text.specs.IndexReading.{same_sort, has};
 
@@ -56,7 +56,8 @@ impl Binders {
 
     /// How many there are.
     pub(crate) fn len(&self) -> usize
-        ensures { result ≡ length self.now }
+        ensures value { result ≡ length self.now }
+        ensures few { result < 2 ^ 63 }
     {
         self.sorts.len()
     }

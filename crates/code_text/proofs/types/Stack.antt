@@ -1,16 +1,16 @@
 -- Binders on a stack: what is counted of them, what is put on and taken off, and their variables by number.
-use Rattle.std.proofs.Common.{◌≡◌, ℕ, zero, suc, ◌+◌, ◌-◌, ◌^◌, ◌≤◌, ◌<◌, cond, nat_le, nat_lt, Bool, true, false, ◌&&◌, List, [], ◌∷◌, ◌++◌, length, drop, reverse, Ok, ap, sym, subst, ◌∙◌, refl, arith, append_assoc, add-one, drop-cons, get_or, Some}
+use Rattle.std.proofs.Common.{◌≡◌, ℕ, zero, suc, ◌+◌, ◌-◌, ◌^◌, ◌≤◌, ◌<◌, cond, eqb, eq-eqb, max, nat_le, nat_lt, Bool, true, false, ◌&&◌, List, [], ◌∷◌, ◌++◌, length, drop, reverse, Ok, ap, sym, subst, ◌∙◌, refl, arith, append_assoc, add-one, drop-cons, get_or, Some}
 use Rattle.std.specs.List.{slice_get}
 use Rattle.std.specs.Fmt.{decimal}
 use Rattle.std.proofs.Math.Seq.{drop-append_seam}
-use Rattle.std.proofs.lemmas.Bool.{ltb-true, lt-ltb, le-leb, lt-leb, ltb_from_iff}
+use Rattle.std.proofs.lemmas.Bool.{ltb-true, lt-ltb, le-leb, lt-leb, ltb_from_iff, ne_eqb}
 use Rattle.std.proofs.lemmas.List.{reverse-append, length-reverse, get_or-reverse, drop-drop}
 use Rattle.std.proofs.lemmas.Option.{slice_get_within, slice_get_read, get_or_from_slice_get}
 use Rattle.core_syntax.specs.declared.index.Sort.{Sort}
 use Rattle.core_syntax.specs.declared.index.Sort.TheVariants as sort
 use Rattle.machine_table.specs.IndexBounds.{under, Under, Binds}
-use Rattle.code_text.specs.Reading.{digit_first, number_at}
-use Rattle.code_text.specs.IndexReading.{largest, same_sort, candidates, binder_at, has, dims_among}
+use Rattle.code_text.specs.Reading.{common, digit_first, number_at}
+use Rattle.code_text.specs.IndexReading.{largest, same_sort, candidates, furthest, spelled_by, binder_at, has, dims_among}
 use Rattle.code_text.proofs.goes.Spelled.{Ended, number_takes}
 use Rattle.code_text.proofs.goes.Pick.{drop_next}
 use Rattle.code_text.proofs.types.Scopes.{sort_is, under_scope}
@@ -108,3 +108,54 @@ whole_name s top bs n place b bytes rest some few low read is le here same end =
     let codec = (under_scope bs few).var s top low (place, (binds, le)) in
     let number : n ≡ length bs - suc place = omega (arith, is, t.within, some) in
     ap (binder_at (length bs) (candidates s top 0 bs)) (t.whole ∙ ap (λ (m : ℕ). decimal m ++ rest) number) ∙ codec.again (length (decimal (length bs - suc place))) place rest (binds, le) (ended rest end) (omega arith)
+
+-- ---- a walk over the binders
+
+less : (total i : ℕ) → total - 1 - i ≡ total - suc i
+less total i = omega arith
+
+stepped : (best best' count all rest whole : ℕ) → best' ≡ max best count → all ≡ max count rest → max best all ≡ whole → max best' rest ≡ whole
+stepped best best' count all rest whole more is so_far = omega (arith, more, is, so_far)
+
+module _ (s : Sort) (top : ℕ) (bs : List Sort) (i : ℕ) (b : Sort) (total : ℕ) (bytes : List ℕ) where
+  -- the binder in this place may go further than those before it
+  pub further : (best best' count whole : ℕ) → slice_get bs i ≡ Some b → same_sort b s ≡ true → i ≤ top → count ≡ common (decimal (total - 1 - i)) bytes → best' ≡ max best count → max best (furthest total (candidates s top i (drop i bs)) bytes) ≡ whole
+      → max best' (furthest total (candidates s top (i + 1) (drop (i + 1) bs)) bytes) ≡ whole
+  further best best' count whole here same le is more so_far =
+      let rest = furthest total (candidates s top (i + 1) (drop (i + 1) bs)) bytes in
+      stepped best best' count (furthest total (candidates s top i (drop i bs)) bytes) rest whole more
+      (ap (λ (ks : List ℕ). furthest total ks bytes) (candidate s top bs i b here same le) ∙ ap (λ (n : ℕ). max n rest) (ap (λ (m : ℕ). common (decimal m) bytes) (sym (less total i)) ∙ sym is))
+      so_far
+
+  -- whether this is the name of the binder in this place
+  tested : (size : ℕ) (text : List ℕ) → slice_get bs i ≡ Some b → same_sort b s ≡ true → i ≤ top → text ≡ decimal (total - 1 - i)
+      → spelled_by size total (candidates s top i (drop i bs)) bytes ≡ cond (eqb (length text) size && eqb (common text bytes) size) (Some i) (spelled_by size total (candidates s top (i + 1) (drop (i + 1) bs)) bytes)
+  tested size text here same le is =
+      let rest = spelled_by size total (candidates s top (i + 1) (drop (i + 1) bs)) bytes in
+      ap (λ (ks : List ℕ). spelled_by size total ks bytes) (candidate s top bs i b here same le)
+      ∙ ap (λ (t : List ℕ). cond (eqb (length t) size && eqb (common t bytes) size) (Some i) rest) (ap (λ (m : ℕ). decimal m) (sym (less total i)) ∙ sym is)
+
+  -- it is the one
+  pub named_here : (size : ℕ) (text : List ℕ) → slice_get bs i ≡ Some b → same_sort b s ≡ true → i ≤ top → text ≡ decimal (total - 1 - i) → length text ≡ size → common text bytes ≡ size
+      → spelled_by size total (candidates s top i (drop i bs)) bytes ≡ Some i
+  named_here size text here same le is long all =
+      let rest = spelled_by size total (candidates s top (i + 1) (drop (i + 1) bs)) bytes in
+      tested size text here same le is
+      ∙ ap (λ (x : Bool). cond (x && eqb (common text bytes) size) (Some i) rest) (eq-eqb (length text) size long)
+      ∙ ap (λ (x : Bool). cond x (Some i) rest) (eq-eqb (common text bytes) size all)
+
+  -- its name has another length
+  pub other_length : (size : ℕ) (text : List ℕ) → slice_get bs i ≡ Some b → same_sort b s ≡ true → i ≤ top → text ≡ decimal (total - 1 - i) → (length text ≡ size → ⊥)
+      → spelled_by size total (candidates s top i (drop i bs)) bytes ≡ spelled_by size total (candidates s top (i + 1) (drop (i + 1) bs)) bytes
+  other_length size text here same le is not =
+      let rest = spelled_by size total (candidates s top (i + 1) (drop (i + 1) bs)) bytes in
+      tested size text here same le is ∙ ap (λ (x : Bool). cond (x && eqb (common text bytes) size) (Some i) rest) (ne_eqb (length text) size not)
+
+  -- the bytes begin with another name
+  pub other_name : (size : ℕ) (text : List ℕ) → slice_get bs i ≡ Some b → same_sort b s ≡ true → i ≤ top → text ≡ decimal (total - 1 - i) → length text ≡ size → (common text bytes ≡ size → ⊥)
+      → spelled_by size total (candidates s top i (drop i bs)) bytes ≡ spelled_by size total (candidates s top (i + 1) (drop (i + 1) bs)) bytes
+  other_name size text here same le is long not =
+      let rest = spelled_by size total (candidates s top (i + 1) (drop (i + 1) bs)) bytes in
+      tested size text here same le is
+      ∙ ap (λ (x : Bool). cond (x && eqb (common text bytes) size) (Some i) rest) (eq-eqb (length text) size long)
+      ∙ ap (λ (x : Bool). cond x (Some i) rest) (ne_eqb (common text bytes) size not)
