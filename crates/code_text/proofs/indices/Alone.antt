@@ -1,5 +1,5 @@
 -- An index of a code that is a normal form is no variable alone: so it reads in parts and in runs.
-use Rattle.std.proofs.Common.{◌≡◌, refl, sym, ap, ◌∙◌, subst, ℕ, zero, suc, ◌+◌, ◌≤◌, ◌<◌, arith, Bool, true, false, List, [], ◌∷◌, ◌++◌, length, map}
+use Rattle.std.proofs.Common.{◌≡◌, refl, ap, subst, ℕ, zero, suc, ◌+◌, ◌≤◌, ◌<◌, arith, Bool, true, false, List, [], ◌∷◌, ◌++◌, length, map}
 use Rattle.std.specs.Prelude.{◌&&◌, ◌==◌, replicate}
 use Rattle.std.proofs.lemmas.Bool.Decides.{nat_tests}
 use Rattle.core_syntax.specs.declared.norm.Coef.{Coef}
@@ -11,7 +11,7 @@ use Rattle.core_syntax.specs.Word.{Word}
 use Rattle.machine_table.specs.declared.code.CodeIndex.{CodeIndex}
 use Rattle.machine_table.specs.declared.code.CodeIndex.TheVariants as index
 use Rattle.machine_table.specs.Indices.{code_index, dim_index}
-use Rattle.code_text.specs.IndexText.{SumPart, Variable, Number, variables, constants, sum_parts, Run, Side, Single, with_dim, runs}
+use Rattle.code_text.specs.IndexText.{SumPart, Variable, variables, constants, sum_parts, Run, Side, Single, with_dim, runs}
 
 -- no sum of one variable
 abbrev pub NoVariable : List SumPart → Type 0

@@ -1,5 +1,5 @@
 -- Binders on a stack: what is counted of them, what is put on and taken off, and their variables by number.
-use Rattle.std.proofs.Common.{◌≡◌, ℕ, zero, suc, ◌+◌, ◌-◌, ◌^◌, ◌≤◌, ◌<◌, cond, eqb, eq-eqb, max, nat_le, nat_lt, Bool, true, false, ◌&&◌, List, [], ◌∷◌, ◌++◌, length, drop, reverse, Ok, ap, sym, subst, ◌∙◌, refl, arith, append_assoc, add-one, drop-cons, get_or, Some}
+use Rattle.std.proofs.Common.{◌≡◌, ℕ, zero, suc, ◌+◌, ◌-◌, ◌^◌, ◌≤◌, ◌<◌, cond, eqb, eq-eqb, max, nat_le, nat_lt, Bool, true, false, ◌&&◌, List, [], ◌∷◌, ◌++◌, length, drop, reverse, Ok, ap, sym, ◌∙◌, refl, arith, append_assoc, add-one, get_or, Some}
 use Rattle.std.specs.List.{slice_get}
 use Rattle.std.specs.Fmt.{decimal}
 use Rattle.std.proofs.Math.Seq.{drop-append_seam}
@@ -8,7 +8,7 @@ use Rattle.std.proofs.lemmas.List.{reverse-append, length-reverse, get_or-revers
 use Rattle.std.proofs.lemmas.Option.{slice_get_within, slice_get_read, get_or_from_slice_get}
 use Rattle.core_syntax.specs.declared.index.Sort.{Sort}
 use Rattle.core_syntax.specs.declared.index.Sort.TheVariants as sort
-use Rattle.machine_table.specs.IndexBounds.{under, Under, Binds}
+use Rattle.machine_table.specs.IndexBounds.{under, Binds}
 use Rattle.code_text.specs.Reading.{common, digit_first, number_at}
 use Rattle.code_text.specs.IndexReading.{largest, same_sort, candidates, furthest, spelled_by, binder_at, has, dims_among}
 use Rattle.code_text.proofs.goes.Spelled.{Ended, number_takes}

@@ -1,5 +1,4 @@
-use Rattle.std.proofs.Common.{◌≡◌, ◌∙◌, ◌+◌, ◌-◌, ℕ, List, length, drop, ap, sym, arith}
-use Rattle.std.specs.Fmt.{decimal}
+use Rattle.std.proofs.Common.{◌≡◌, ◌∙◌, ◌+◌, ℕ, List, length, drop, ap, sym, arith}
 use Rattle.std.specs.String.{string_bytes}
 use Rattle.code_text.specs.Reading.{common}
 use Rattle.code_text.specs.IndexReading.{candidates, spelled_by}
@@ -34,18 +33,21 @@ loop-place-preserved c =
     let here = spelled_by size total (candidates s top place (drop place bs)) bytes in
     let rest = spelled_by size total (candidates s top (place + 1) (drop (place + 1) bs)) bytes in
     let step : here ≡ rest = elim c.if-same.branch [
-      then-same+then-place-top+in_ok-text+else-as_bytes-size w ↦
-        let text = string_bytes w.in_ok-text.text in
-        let long = ap (λ (t : List ℕ). length t) (sym w.as_bytes-then-place-top.ensures.value) in
-        let same = sym c.same.ensures ∙ w.if-same.true in
-        elim w.else-as_bytes-size.branch [
-          else-as_bytes-size-via-then-as_bytes-size+else-count-size w' ↦
-            other_name s top bs place c.sort.result total bytes size text c.sort.ensures same (omega arith) w.in_ok-text.ensures.ok (long ∙ w'.if-as_bytes-size.true)
-            (λ e. w'.if-count-size.false (w.common_front-count.ensures.value ∙ ap (λ (t : List ℕ). common t bytes) w.as_bytes.ensures.value ∙ e))
-        | else-as_bytes-size-via-else-as_bytes-size w' ↦
-            other_length s top bs place c.sort.result total bytes size text c.sort.ensures same (omega arith) w.in_ok-text.ensures.ok (λ e. w'.if-as_bytes-size.false (sym long ∙ e)) ]
-    | else-same w ↦
-        elim w.else-same.branch [
-          else-same-via-then-same+else-place-top w' ↦ ap (λ (ks : List ℕ). spelled_by size total ks bytes) (too_large s top bs place c.sort.result c.sort.ensures (sym c.same.ensures ∙ w'.if-same.true) (omega arith))
-        | else-same-via-else-same w' ↦ ap (λ (ks : List ℕ). spelled_by size total ks bytes) (other_sort s top bs place c.sort.result c.sort.ensures (sym c.same.ensures ∙ w'.if-same.false)) ] ] in
+      | then-same+then-place-top+in_ok-text+else-as_bytes-size w ↦
+          let text = string_bytes w.in_ok-text.text in
+          let long = ap (λ (t : List ℕ). length t) (sym w.as_bytes-then-place-top.ensures.value) in
+          let same = sym c.same.ensures ∙ w.if-same.true in
+          elim w.else-as_bytes-size.branch [
+            | else-as_bytes-size-via-then-as_bytes-size+else-count-size w' ↦
+                other_name s top bs place c.sort.result total bytes size text c.sort.ensures same (omega arith) w.in_ok-text.ensures.ok (long ∙ w'.if-as_bytes-size.true)
+                (λ e. w'.if-count-size.false (w.common_front-count.ensures.value ∙ ap (λ (t : List ℕ). common t bytes) w.as_bytes.ensures.value ∙ e))
+            | else-as_bytes-size-via-else-as_bytes-size w' ↦
+                other_length s top bs place c.sort.result total bytes size text c.sort.ensures same (omega arith) w.in_ok-text.ensures.ok (λ e. w'.if-as_bytes-size.false (sym long ∙ e))
+          ]
+      | else-same w ↦
+          elim w.else-same.branch [
+            | else-same-via-then-same+else-place-top w' ↦ ap (λ (ks : List ℕ). spelled_by size total ks bytes) (too_large s top bs place c.sort.result c.sort.ensures (sym c.same.ensures ∙ w'.if-same.true) (omega arith))
+            | else-same-via-else-same w' ↦ ap (λ (ks : List ℕ). spelled_by size total ks bytes) (other_sort s top bs place c.sort.result c.sort.ensures (sym c.same.ensures ∙ w'.if-same.false))
+          ]
+    ] in
     sym step ∙ c.loop-place.invariant

@@ -1,4 +1,4 @@
-use Rattle.std.proofs.Common.{◌≡◌, ◌∙◌, ◌-◌, ℕ, true, ap, sym, arith, length}
+use Rattle.std.proofs.Common.{◌∙◌, ◌-◌, ℕ, true, ap, sym, arith}
 use Rattle.code_text.specs.Reading.{number_at}
 use Rattle.code_text.proofs.types.Stack.{whole_name}
 use Rattle.code_text.proofs.read_vars.whole.Goals as goal

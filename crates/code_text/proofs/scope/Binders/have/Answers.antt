@@ -1,4 +1,4 @@
-use Rattle.std.proofs.Common.{◌≡◌, ◌∙◌, ℕ, List, length, reverse, nat_lt, ap, sym, arith}
+use Rattle.std.proofs.Common.{◌≡◌, ◌∙◌, ℕ, List, length, reverse, nat_lt, ap, sym}
 use Rattle.std.proofs.lemmas.List.{length-reverse}
 use Rattle.core_syntax.specs.declared.index.Sort.{Sort}
 use Rattle.code_text.specs.IndexReading.{has, dims_among}
