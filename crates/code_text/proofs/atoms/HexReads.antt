@@ -87,9 +87,6 @@ glyph d small =
 pub plain_bounds : (n : ℕ) → is_plain n ≡ true → (33 ≤ n) × (n ≤ 126)
 plain_bounds n e = (leb-true 33 n (both_left (nat_le 33 n) (nat_le n 126) e), leb-true n 126 (both_right (nat_le 33 n) (nat_le n 126) e))
 
-pub is_plain_at : (n : ℕ) → 33 ≤ n → n ≤ 126 → is_plain n ≡ true
-is_plain_at n low high = both_true (nat_le 33 n) (nat_le n 126) (le-leb 33 n low) (le-leb n 126 high)
-
 pub not_plain : (n : ℕ) → (33 ≤ n → n ≤ 126 → ⊥) → is_plain n ≡ false
 not_plain n never = ⊎_elim (λ t. absurd (never (plain_bounds n t).0 (plain_bounds n t).1)) (λ f. f) (true_or_false (is_plain n))
 

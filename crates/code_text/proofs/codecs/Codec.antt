@@ -49,9 +49,6 @@ ok_of x y e = one_ok (got x) x y refl e
 pub bind_goes : {A B : Type 0} (p : List ℕ → Read A) (f : A × List ℕ → Read B) (k : B → Rest Code) → Goes (λ s. then_rest (p s) (λ a t. then_rest (f (a, t)) k)) → Goes (λ s. then_rest (p s >>= f) k)
 bind_goes p f k G = Goes-same (λ s. then_rest (p s >>= f) k) (λ s. then_rest (p s) (λ a t. then_rest (f (a, t)) k)) (λ s. bind_rest (p s) f k) G
 
-pub bind_no_digit : {A B : Type 0} (p : List ℕ → Read A) (f : A × List ℕ → Read B) (k : B → Rest Code) → NoDigit (λ s. then_rest (p s) (λ a t. then_rest (f (a, t)) k)) → NoDigit (λ s. then_rest (p s >>= f) k)
-bind_no_digit p f k N d z digit = bind_rest (p (d ∷ z)) f k ∙ N d z digit
-
 pub follow_same : (e : Bool) (g h : Rest Code) → ((s : List ℕ) → g s ≡ h s) → Follow e h → Follow e g
 follow_same true g h same N = λ d z digit. same (d ∷ z) ∙ N d z digit
 follow_same false g h same N = tt

@@ -32,9 +32,6 @@ unfolding common
 words_free InBlock = refl
 words_free (Under binders) = refl
 
-abbrev always : Bool → Bool
-always _ = true
-
 module _ (scope : Scope) (S : Scoped scope) where
   -- ---- dims side by side
 

@@ -1,11 +1,11 @@
 -- Binders on a stack: what is counted of them, what is put on and taken off, and their variables by number.
-use Rattle.std.proofs.Common.{◌≡◌, ℕ, zero, suc, ◌+◌, ◌-◌, ◌^◌, ◌≤◌, ◌<◌, cond, eqb, eq-eqb, max, nat_le, nat_lt, Bool, true, false, ◌&&◌, List, [], ◌∷◌, ◌++◌, length, drop, reverse, Ok, ap, sym, ◌∙◌, refl, arith, append_assoc, add-one, get_or, Some}
+use Rattle.std.proofs.Common.{◌≡◌, ℕ, zero, suc, ◌+◌, ◌-◌, ◌^◌, ◌≤◌, ◌<◌, cond, eqb, eq-eqb, max, nat_le, nat_lt, Bool, true, false, ◌&&◌, List, [], ◌∷◌, ◌++◌, length, drop, reverse, Ok, ap, sym, ◌∙◌, refl, arith, add-one, Some}
 use Rattle.std.specs.List.{slice_get}
 use Rattle.std.specs.Fmt.{decimal}
 use Rattle.std.proofs.Math.Seq.{drop-append_seam}
 use Rattle.std.proofs.lemmas.Bool.{ltb-true, lt-ltb, le-leb, lt-leb, ltb_from_iff, ne_eqb}
-use Rattle.std.proofs.lemmas.List.{reverse-append, length-reverse, get_or-reverse, drop-drop}
-use Rattle.std.proofs.lemmas.Option.{slice_get_within, slice_get_read, get_or_from_slice_get}
+use Rattle.std.proofs.lemmas.List.{length-reverse, drop-drop}
+use Rattle.std.proofs.lemmas.Option.{slice_get_within, get_or_from_slice_get}
 use Rattle.core_syntax.specs.declared.index.Sort.{Sort}
 use Rattle.core_syntax.specs.declared.index.Sort.TheVariants as sort
 use Rattle.machine_table.specs.IndexBounds.{under, Binds}
@@ -36,21 +36,6 @@ has_shape (sort.Dim ∷ bs) = has_shape bs ∙ both_more (dims_among bs) (length
 has_shape (sort.Shape ∷ bs) = sym (lt-ltb (dims_among bs) (suc (length bs)) (omega (arith, dims_few bs)))
 
 -- ---- what is put on and taken off
-
--- one more, of which the stack is the list from its last
-pub one_pushed : (ss : List Sort) (s : Sort) → reverse (ss ++ s ∷ []) ≡ s ∷ reverse ss
-one_pushed ss s = reverse-append ss (s ∷ [])
-
--- one less
-pub one_popped : (old new : List Sort) (s : Sort) → old ≡ new ++ s ∷ [] → reverse old ≡ s ∷ reverse new
-one_popped old new s e = ap (λ (l : List Sort). reverse l) e ∙ one_pushed new s
-
--- the binder in a place from the innermost
-pub in_place : (ss : List Sort) (place : ℕ) (s : Sort) → place < length ss → s ≡ get_or ss (length ss - 1 - place) s → slice_get (reverse ss) place ≡ Some s
-in_place ss place s lt is = slice_get_read (reverse ss) (length ss) place s (sym (length-reverse ss)) lt (is ∙ sym (get_or-reverse ss place s lt))
-
-pub one_under : (s : Sort) (ss bs : List Sort) → under ss (s ∷ bs) ≡ under (s ∷ ss) bs
-one_under s ss bs = sym (ap (λ x. x ++ bs) (reverse-append (s ∷ []) ss) ∙ append_assoc (reverse ss) (s ∷ []) bs)
 
 pub one_dropped : (n : ℕ) (bs : List Sort) → drop 1 (drop n bs) ≡ drop (n + 1) bs
 one_dropped n bs = drop-drop 1 n bs
