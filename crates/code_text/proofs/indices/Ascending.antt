@@ -10,7 +10,7 @@ use Rattle.core_syntax.specs.Linear.{Linear, IsAscending}
 use Rattle.machine_table.specs.IndexBounds.{Scope, InBlock, Under}
 use Rattle.code_text.specs.IndexText.{SumPart, Variable, Number, constants}
 use Rattle.code_text.specs.Reading.{Read, ◌>>=◌, Reader, byte_at, word_at, end_at, number_at, plainly, behind, made, with_front, either_at, items_from, some_items}
-use Rattle.code_text.specs.IndexReading.{lead, largest, same_sort, candidates, furthest, spelled_by, spelled_at, binder_at, var_at, has_var, sum_room, sum_item, sum_next, sum_first, sum_others, sum_at, alone, constant_at, parts_among, parts_at, linear_of}
+use Rattle.code_text.specs.IndexReading.{lead, largest, same_sort, candidates, furthest, spelled_by, spelled_at, among_at, var_at, has_var, sum_room, sum_item, sum_next, sum_first, sum_others, sum_at, alone, constant_at, parts_among, parts_at, linear_of}
 use Rattle.code_text.proofs.goes.Goes.{both_right, Ok≢Err}
 use Rattle.code_text.proofs.goes.Spelled.{bind_ok}
 use Rattle.code_text.proofs.codecs.Codec.{ok_of}
@@ -95,7 +95,7 @@ spelled_small top m n (j ∷ js) s k all e = go _ e (λ f. spelled_small top m n
     go true f later = subst (λ (i : ℕ). i ≤ top) (one_some j k f) all.0
     go false f later = later f
 
-binder_small : (top n : ℕ) (ks s : List ℕ) (x : ℕ × List ℕ) → AreUpTo top ks → binder_at n ks s ≡ Ok x → x.0 ≤ top
+binder_small : (top n : ℕ) (ks s : List ℕ) (x : ℕ × List ℕ) → AreUpTo top ks → among_at n ks s ≡ Ok x → x.0 ≤ top
 binder_small top n ks s x all e = go (furthest n ks s) (spelled_by (furthest n ks s) n ks s) refl e
   where
     go : (m : ℕ) (o : Option ℕ) → spelled_by m n ks s ≡ o → spelled_at m o s ≡ Ok x → x.0 ≤ top

@@ -8,7 +8,7 @@ use Rattle.std.proofs.lemmas.Fmt.{decimal_by_steps, decimal_injective}
 use Rattle.std.proofs.lemmas.List.{length-take}
 use Rattle.machine_table.specs.Codes.{Code}
 use Rattle.code_text.specs.Reading.{Read, is_digit, is_hex, common, plainly}
-use Rattle.code_text.specs.IndexReading.{furthest, spelled_by, spelled_at, binder_at}
+use Rattle.code_text.specs.IndexReading.{furthest, spelled_by, spelled_at, among_at}
 use Rattle.code_text.proofs.goes.Common.{common-self, take-common, common-le, common-again, same_first, other_first}
 use Rattle.code_text.proofs.goes.Goes.{Rest, then_rest, Live, Stops, StopsAt, Goes, NoDigit, digit_hex, true_or_false, both_left, both_right, Ok≢Err}
 use Rattle.code_text.proofs.goes.Spelled.{digit_is, Ended}
@@ -162,7 +162,7 @@ module _ (n : ℕ) (few : n ≤ 2 ^ 32) where
 
   module _ (ks : List ℕ) (bound : AllBound ks) where
     abbrev reads : List ℕ → Read ℕ
-    reads s = binder_at n ks s
+    reads s = among_at n ks s
 
     -- a name behind which no digit comes is read
     again : (k : ℕ) (r : List ℕ) → Among ks k → Ended r → reads (name_of k ++ r) ≡ Ok (k, r)
@@ -308,7 +308,7 @@ module _ (n : ℕ) (few : n ≤ 2 ^ 32) where
       goes : Goes g
       goes = record { live = live; stops = λ s. cases s (spelled_by (furthest n ks s) n ks s) refl }
 
-    binder_codec : ((s : List ℕ) → Reaches ks s) → Codec false true (plainly (binder_at n ks)) name_of (Among ks)
+    binder_codec : ((s : List ℕ) → Reaches ks s) → Codec false true (plainly (among_at n ks)) name_of (Among ks)
     binder_codec some = record {
       takes = λ _ s x is. read_of s (spelled_by (furthest n ks s) n ks s) x refl is;
       again = λ _ j r is after le. again j r is after;
@@ -318,6 +318,6 @@ module _ (n : ℕ) (few : n ≤ 2 ^ 32) where
     }
 
   -- the same where there is some variable
-  pub among_codec : (ks : List ℕ) (k : ℕ) → AllBound ks → Among ks k → Codec false true (plainly (binder_at n ks)) name_of (Among ks)
+  pub among_codec : (ks : List ℕ) (k : ℕ) → AllBound ks → Among ks k → Codec false true (plainly (among_at n ks)) name_of (Among ks)
   among_codec [] k bound is = absurd is
   among_codec (j ∷ js) k bound is = binder_codec (j ∷ js) bound (λ s. reaches (j ∷ js) bound js j s)

@@ -5,7 +5,7 @@ use Rattle.core_syntax.specs.declared.index.Sort.{Sort}
 use Rattle.core_syntax.specs.declared.index.Sort.TheVariants as sort
 use Rattle.machine_table.specs.IndexBounds.{Under, Binds}
 use Rattle.code_text.specs.Reading.{plainly}
-use Rattle.code_text.specs.IndexReading.{same_sort, candidates, binder_at, has}
+use Rattle.code_text.specs.IndexReading.{same_sort, candidates, among_at, has}
 use Rattle.code_text.proofs.goes.Goes.{true_or_false, both_left, both_right}
 use Rattle.code_text.proofs.codecs.Many.{agree}
 use Rattle.code_text.proofs.indices.Sums.{IsVarUpTo}
@@ -115,7 +115,7 @@ all_below s top n (b ∷ bs) i le =
 -- binders that are few enough to have numbers
 pub under_scope : (binders : List Sort) → length binders ≤ 2 ^ 32 → Scoped (Under binders)
 under_scope binders few = record {
-  var = λ s top le some. agree false true (plainly (binder_at (length binders) (candidates s top 0 binders))) (name_of (length binders) few) (Among (candidates s top 0 binders)) (IsVarUpTo (Under binders) s top)
+  var = λ s top le some. agree false true (plainly (among_at (length binders) (candidates s top 0 binders))) (name_of (length binders) few) (Among (candidates s top 0 binders)) (IsVarUpTo (Under binders) s top)
       (λ k is. let c = chosen s top binders 0 k is in (subst (Binds s binders) (first c.place k c.is) c.binds, c.small))
       (λ k is. choose_from_none s top k binders is.0 is.1)
       (among_codec (length binders) few (candidates s top 0 binders) some.0 (all_below s top (length binders) binders 0 (omega arith)) (choose_from_none s top some.0 binders some.1.0 some.1.1));

@@ -10,7 +10,7 @@ use Rattle.core_syntax.specs.declared.index.Sort.{Sort}
 use Rattle.core_syntax.specs.declared.index.Sort.TheVariants as sort
 use Rattle.machine_table.specs.IndexBounds.{under, Binds}
 use Rattle.code_text.specs.Reading.{common, digit_first, number_at}
-use Rattle.code_text.specs.IndexReading.{largest, same_sort, candidates, furthest, spelled_by, binder_at, has, dims_among}
+use Rattle.code_text.specs.IndexReading.{largest, same_sort, candidates, furthest, spelled_by, among_at, has, dims_among}
 use Rattle.code_text.proofs.goes.Spelled.{Ended, number_takes}
 use Rattle.code_text.proofs.goes.Pick.{drop_next}
 use Rattle.code_text.proofs.types.Scopes.{sort_is, under_scope}
@@ -86,13 +86,13 @@ ended (c ∷ s) e = e
 
 -- the binder whose number is the whole number at the front is read
 pub whole_name : (s : Sort) (top : ℕ) (bs : List Sort) (n place : ℕ) (b : Sort) (bytes rest : List ℕ) → 0 < length bs → length bs ≤ 2 ^ 32 → top ≤ largest → number_at true (length bs - 1) bytes ≡ Ok (n, rest) → place ≡ length bs - 1 - n → place ≤ top → slice_get bs place ≡ Some b → same_sort b s ≡ true → digit_first rest ≡ false
-    → binder_at (length bs) (candidates s top 0 bs) bytes ≡ Ok (place, rest)
+    → among_at (length bs) (candidates s top 0 bs) bytes ≡ Ok (place, rest)
 whole_name s top bs n place b bytes rest some few low read is le here same end =
     let t = number_takes true (length bs - 1) bytes (n, rest) (omega (arith, few)) read in
     let binds : Binds s bs place = binds_at s bs place b here (sort_is b s same) in
     let codec = (under_scope bs few).var s top low (place, (binds, le)) in
     let number : n ≡ length bs - suc place = omega (arith, is, t.within, some) in
-    ap (binder_at (length bs) (candidates s top 0 bs)) (t.whole ∙ ap (λ (m : ℕ). decimal m ++ rest) number) ∙ codec.again (length (decimal (length bs - suc place))) place rest (binds, le) (ended rest end) (omega arith)
+    ap (among_at (length bs) (candidates s top 0 bs)) (t.whole ∙ ap (λ (m : ℕ). decimal m ++ rest) number) ∙ codec.again (length (decimal (length bs - suc place))) place rest (binds, le) (ended rest end) (omega arith)
 
 -- ---- a walk over the binders
 
