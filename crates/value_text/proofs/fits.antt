@@ -1,0 +1,7 @@
+pub mod FitsLemmas
+pub mod FitsReads
+pub mod FitsTexts
+pub mod FitsWhole
+pub mod Ranges
+pub mod ReadsFits
+pub mod SaidReads
