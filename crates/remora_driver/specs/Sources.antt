@@ -1,5 +1,5 @@
 -- What reading a program source says, and how an answer of the code is seen.
-use Rattle.std.specs.Prelude.{◌≡◌, ℕ, List, [], Result, Ok, Err, ⊤}
+use Rattle.std.specs.Prelude.{◌≡◌, ℕ, List, Result, Ok, Err, ⊤}
 use Rattle.core_syntax.specs.declared.checked.Checked.{Checked}
 use Rattle.core_syntax.specs.declared.program.Program.{Program}
 use Rattle.core_syntax.specs.Blame.{Blames}
@@ -17,7 +17,7 @@ use Rattle.machine_table.specs.Codes.{Code}
 use Rattle.remora_driver.specs.declared.reply.Reply.{Reply}
 use Rattle.remora_driver.specs.declared.errors.SourceRefusal.{SourceRefusal}
 use Rattle.remora_driver.specs.declared.errors.SourceRefusal.TheVariants as no_code
-use Rattle.remora_driver.specs.Due.{Answer, front, IsRefused, HasNoCode, shown, trapped, stuck, still_running}
+use Rattle.remora_driver.specs.Due.{Answer, IsRefused, shown, trapped, stuck, still_running}
 use Rattle.remora_driver.specs.Programs.{IsSource, IsAcceptedSource, IsProgram}
 
 -- the program that the forms mean, or why they mean none, or there was no memory
@@ -44,11 +44,10 @@ ChecksSource bytes (Ok c) = IsAcceptedSource bytes (program_of c.program)
 ChecksSource bytes (Err (no_code.Refused number at)) = IsRefused bytes number at
 ChecksSource bytes (Err no_code.Memory) = ⊤
 
--- the code of a checked program without inputs, or it has inputs, or there was no memory
-abbrev pub CompilesChecked : Checked → Result Code SourceRefusal → Type 0
-CompilesChecked c (Ok code) = ((program_of c.program).inputs ≡ []) × LiteralsFit (program_of c.program) × (code ≡ code_of_program (program_of c.program) (each note_of c.notes))
-CompilesChecked c (Err (no_code.Refused number at)) = ¬ ((program_of c.program).inputs ≡ []) × (number ≡ 90) × (at ≡ front)
-CompilesChecked c (Err no_code.Memory) = ⊤
+-- the code of a checked program, whose literals are those that a text can hold
+pub record IsCodeOf (c : Checked) (code : Code) : Type 0 where
+  pub literals : LiteralsFit (program_of c.program)
+  pub compiled : code ≡ code_of_program (program_of c.program) (each note_of c.notes)
 
 -- this is the code of the program that the text means
 pub record IsCompiled (bytes : List ℕ) (code : Code) : Type 0 where
@@ -57,10 +56,10 @@ pub record IsCompiled (bytes : List ℕ) (code : Code) : Type 0 where
   pub runs : IsProgram bytes program notes
   pub compiled : code ≡ code_of_program program notes
 
--- the code of the program, or why the source has none, or there was no memory
+-- the code of the program, or why the source is refused, or there was no memory
 abbrev pub Compiles : List ℕ → Result Code SourceRefusal → Type 0
 Compiles bytes (Ok code) = IsCompiled bytes code
-Compiles bytes (Err (no_code.Refused number at)) = HasNoCode bytes number at
+Compiles bytes (Err (no_code.Refused number at)) = IsRefused bytes number at
 Compiles bytes (Err no_code.Memory) = ⊤
 
 -- the status and the bytes of a reply
