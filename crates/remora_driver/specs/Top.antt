@@ -1,5 +1,6 @@
 -- What the top call says of its sources and its sink.
-use Rattle.std.specs.Prelude.{◌≡◌, ℕ, List, Option, IfSome, ⊤}
+use Rattle.std.specs.Prelude.{◌≡◌, ◌⊎◌, ℕ, List, Option, IfSome, ⊤}
+use Rattle.rem_base.specs.Counts.{Rose}
 use Rattle.remora_driver.specs.declared.top.Halt.{Halt}
 use Rattle.remora_driver.specs.declared.top.Halt.TheVariants as halt
 use Rattle.remora_driver.specs.declared.status.Status.{Status}
@@ -43,6 +44,10 @@ IsAnswer StillRunning = ⊤
 IsAnswer Memory = ⊥
 IsAnswer (DataRefused number at) = ⊤
 IsAnswer (Stuck why) = ⊤
+
+-- the count of the program source's faults or that of the input's rose
+abbrev pub Faulted : (program program' input input' : ℕ) → Type 0
+Faulted p p' i i' = Rose p p' ⊎ Rose i i'
 
 -- a fault comes only where this holds
 abbrev pub HaltsFor : Halt → Type 0 → Type 0
