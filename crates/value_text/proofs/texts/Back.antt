@@ -1,12 +1,12 @@
 -- The texts of arrays that fit the types of inputs are data of these types.
-use Rattle.std.proofs.Common.{◌≡◌, refl, sym, ap, subst, ◌∙◌, ℕ, ◌≤◌, List, [], ◌∷◌, length, Some}
+use Rattle.std.proofs.Common.{◌≡◌, refl, sym, subst, ◌∙◌, List, [], ◌∷◌, Some}
 use Rattle.core_syntax.specs.Data.{Data}
 use Rattle.core_syntax.specs.Lists.{each}
 use Rattle.sexp_reader.specs.Forms.{Form, Forms, no_forms, more_forms}
 use Rattle.sexp_reader.specs.Reads.{Reads}
 use Rattle.sexp_reader.specs.Tokens.{start}
 use Rattle.array_values.specs.Data.{array_data}
-use Rattle.value_text.specs.DataFits.{of_two, said_value, said_values}
+use Rattle.value_text.specs.DataFits.{of_two, said_values}
 use Rattle.value_text.specs.ReadBack.{TextsFit}
 use Rattle.value_text.specs.Shown.{shown_value, shown_values}
 use Rattle.value_text.proofs.texts.Said.{bare, bares, shown_is_said}

@@ -1,9 +1,8 @@
 -- Data that fits the type of an input is shown as forms that say it, with texts that are spellings.
-use Rattle.std.proofs.Common.{◌≡◌, inl, inr, ◌⊎◌, refl, sym, ap, subst, ◌∙◌, ℕ, zero, suc, ℤ, pos, negsuc, ◌+◌, ◌^◌, ◌<◌, ◌≤◌, arith, Bool, true, false, ◌&&◌, nat_lt, nat_le, List, [], ◌∷◌, codes, length, Some}
+use Rattle.std.proofs.Common.{◌≡◌, inl, inr, refl, sym, subst, ℕ, zero, suc, ℤ, pos, negsuc, ◌^◌, ◌<◌, arith, Bool, true, false, nat_lt, nat_le, List, [], ◌∷◌, codes, length}
 use Rattle.std.proofs.lemmas.Bool.{and_parts, ltb-true}
 use Rattle.std.proofs.lemmas.Bool.Decides.{nat_tests}
 use Rattle.std.proofs.lemmas.Fmt.{IsAscii-signed}
-use Rattle.std.proofs.lemmas.Str.{IsAscii-append}
 use Rattle.std.proofs.lemmas.Str.Ascii.{IsAscii-nil, IsAscii-cons}
 use Rattle.std.proofs.lemmas.List.Elements.{All-head, All-tail}
 use Rattle.std.specs.Prelude.{IsTrue, ⊤}
@@ -14,11 +13,11 @@ use Rattle.std.specs.Str.{IsAscii}
 use Rattle.core_syntax.specs.declared.index.Sort.{Sort}
 use Rattle.core_syntax.specs.declared.ty.Base.{Base}
 use Rattle.core_syntax.specs.declared.ty.Base.TheVariants as base
-use Rattle.core_syntax.specs.Data.{Data, DataArray, DataAtom, DataInt, DataBool, DataChar, DataBox, DataFn, DataAtoms, no_data, more_data, HasSort, FitsValues}
+use Rattle.core_syntax.specs.Data.{Data, DataArray, DataAtom, DataInt, DataBool, DataChar, DataBox, DataFn, DataAtoms, no_data, more_data, FitsValues}
 use Rattle.core_syntax.specs.Delta.{is_int}
-use Rattle.core_syntax.specs.Fits.{all_below, forms, value_fits, all_fit}
-use Rattle.core_syntax.specs.Lists.{each, onto, EachTwo}
-use Rattle.core_syntax.specs.Syntax.{Ty, BaseTy, Sigma, no_span}
+use Rattle.core_syntax.specs.Fits.{all_below, value_fits, all_fit}
+use Rattle.core_syntax.specs.Lists.{each, onto}
+use Rattle.core_syntax.specs.Syntax.{BaseTy, Sigma, no_span}
 use Rattle.core_syntax.specs.Terms.{IndexValue, DimValue, ShapeValue}
 use Rattle.core_syntax.specs.Word.{Word}
 use Rattle.machine_table.specs.CodeBounds.{IsAround, IsParam}

@@ -11,7 +11,7 @@ use Rattle.sexp_reader.specs.declared.pieces.Leaf.{Leaf}
 use Rattle.sexp_reader.specs.declared.pieces.Leaf.TheVariants as leaf
 use Rattle.sexp_reader.specs.Bytes.{is_end}
 use Rattle.sexp_reader.specs.Forms.{Form, Atom, Group, Forms, no_forms, more_forms, form_nesting, forms_nesting}
-use Rattle.sexp_reader.specs.Reads.{Mark, Opens, Closes, Reads, marks, form_marks, forms_marks}
+use Rattle.sexp_reader.specs.Reads.{Opens, Closes, Reads, marks, form_marks, forms_marks}
 use Rattle.sexp_reader.specs.Split.{Spells, Part, Blank, Opening, Closing, Said, text_of, IsSplit, parts_tokens}
 use Rattle.sexp_reader.specs.Tokens.{start, place_after, span_at}
 use Rattle.sexp_reader.proofs.ByGrammar.{reads_is_grammar}

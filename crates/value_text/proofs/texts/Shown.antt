@@ -7,7 +7,7 @@ use Rattle.core_syntax.specs.Lists.{each}
 use Rattle.core_syntax.specs.Syntax.{no_span}
 use Rattle.core_syntax.specs.Terms.{IndexValue, DimValue, ShapeValue}
 use Rattle.sexp_reader.specs.declared.pieces.Leaf.TheVariants as leaf
-use Rattle.sexp_reader.specs.Forms.{Form, Atom, Group, Forms, no_forms, more_forms}
+use Rattle.sexp_reader.specs.Forms.{Form, Atom, Group, no_forms, more_forms}
 use Rattle.sexp_reader.specs.Split.{Part, Closing, text_of}
 use Rattle.array_values.specs.Data.{array_data}
 use Rattle.array_values.specs.Values.{Array}

@@ -8,7 +8,7 @@ pub loop-coef-preserved : goal.loop-coef-preserved
 loop-coef-preserved c =
     c.saturating_add-sum.ensures
     ∙ summed_more (hidden (inside c.args.hidden.now)) c.args.constant c.args.coefs.now c.loop-coef.coef-index c.loop-coef.sum c.saturating_mul-part.result c.hidden_dim.result _ c.loop-coef-test.true
-        c.loop-coef.invariant c.hidden_dim.ensures c.saturating_mul-part.ensures
+    c.loop-coef.invariant c.hidden_dim.ensures c.saturating_mul-part.ensures
 
 pub returns : goal.returns
 returns c = summed_all (hidden (inside c.args.hidden.now)) c.args.constant c.args.coefs.now c.loop-coef.coef-index c.loop-coef.sum c.loop-coef-test.false c.loop-coef.invariant
