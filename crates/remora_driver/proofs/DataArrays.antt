@@ -1,11 +1,10 @@
 -- Arrays with the same data are the same, where that data fits types: then it holds no function, and all else of an array is in its data.
-use Rattle.std.proofs.Common.{◌≡◌, refl, sym, ap, ◌∙◌, subst, ℕ, pos, List, [], ◌∷◌, map}
+use Rattle.std.proofs.Common.{◌≡◌, refl, sym, ap, ◌∙◌, subst, pos, List, [], ◌∷◌, map}
 use Rattle.core_syntax.specs.declared.ty.Base.TheVariants as base
 use Rattle.core_syntax.specs.Data.{Data, DataArray, DataAtom, DataInt, DataBool, DataChar, DataBox, DataFn, DataAtoms, no_data, more_data, FitsType, AtomFits, AtomsFit, FitsValues}
 use Rattle.core_syntax.specs.Lists.{each}
 use Rattle.core_syntax.specs.Subst.{with_indices}
 use Rattle.core_syntax.specs.Syntax.{Ty, BaseTy, TyVar, Fun, Forall, Pi, Sigma, Arr}
-use Rattle.core_syntax.specs.Terms as term
 use Rattle.core_syntax.specs.Typed.{value_index}
 use Rattle.array_values.specs.declared.closure.Closure.{Closure, Closure-F, roll-Closure, map-Closure, fold-Closure, fold-roll-Closure}
 use Rattle.array_values.specs.declared.index_value.IndexValue.{IndexValue}
