@@ -75,7 +75,7 @@ pair_same m n p q e = let h : ◌≡◌ {A = Refusal} (m, p) (n, q) = cc in (ap 
 blame_same : (m n : ℕ) (p q : Span) → ◌≡◌ {A = Read Program} (Err (m, p)) (Err (n, q)) → (m ≡ n) × (p ≡ q)
 blame_same m n p q e = let h : ◌≡◌ {A = Refusal} (m, p) (n, q) = cc in (ap (λ (r : Refusal). r.0) h, ap (λ (r : Refusal). r.1) h)
 
-refused_same : (m n : ℕ) (p q : Span) → m ≡ n → p ≡ q → refused m p ≡ refused n q
+pub refused_same : (m n : ℕ) (p q : Span) → m ≡ n → p ≡ q → refused m p ≡ refused n q
 refused_same m n p q e h = ap (λ (k : ℕ). refused k p) e ∙ ap (refused n) h
 
 -- a program that equals a blamed one is blamed
