@@ -9,6 +9,7 @@ ghost use Rattle.remora_driver.specs.Programs.{input_types};
 
 use array_values::Array;
 use core_syntax::{Checked, Memory};
+use lowering::input_params;
 use std::alloc::Global;
 use value_text::{DataRefusal, read_data};
 
@@ -18,8 +19,8 @@ pub fn input_values(alloc: Global, checked: &Checked, given: &[u8]) -> Result<Ve
     ensures found { IfOk result (λ v. Fits given.now (input_types (program_of checked.now.program)) (each array_data v.items)) }
     ensures blame { IfErr result (λ e. IsDue given.now (input_types (program_of checked.now.program)) e) }
 {
-    match compiled_laws::compile(alloc, checked) {
-        Ok(code) => read_data(alloc, code.params(), given),
+    match input_params(alloc, checked) {
+        Ok(params) => read_data(alloc, params.as_slice(), given),
         Err(Memory) => Err(DataRefusal::Memory),
     }
 }
