@@ -9,6 +9,7 @@ pub mod OneBlame
 pub mod OneData
 pub mod OneDue
 pub mod OneEnd
+pub mod OneFit
 pub mod OneNotes
 pub mod Plain
 pub mod Ready

@@ -1,7 +1,9 @@
 -- That data fits types is a fact with one proof.
-use Rattle.std.proofs.Common.{List, [], ◌∷◌, true}
+use Rattle.std.proofs.Common.{sym, subst, List, [], ◌∷◌, true}
+use Rattle.std.proofs.Math.Logic.{∥∥₁_elim}
 use Rattle.std.specs.Coded.{×_prop, Unit-prop, Coded-set, coded_bool, coded_list, coded_ℕ}
 use mathlib.Core.HLevel.{×₃_prop, ⊥_prop}
+use Rattle.core_syntax.specs.declared.checked.Checked.{Checked}
 use Rattle.core_syntax.specs.declared.index.Sort.{Sort}
 use Rattle.core_syntax.specs.declared.index.Sort.TheVariants as sort
 use Rattle.core_syntax.specs.declared.ty.Base.TheVariants as base
@@ -9,11 +11,15 @@ use Rattle.core_syntax.specs.Data.{Data, DataArray, DataAtom, DataInt, DataBool,
 use Rattle.core_syntax.specs.Delta.{is_int}
 use Rattle.core_syntax.specs.Fits.{forms, all_fit}
 use Rattle.core_syntax.specs.Lists.{each, product, EachTwo}
+use Rattle.core_syntax.specs.Refine.{ty_of}
 use Rattle.core_syntax.specs.Subst.{with_indices}
 use Rattle.core_syntax.specs.Syntax.{Ty, BaseTy, TyVar, Fun, Forall, Pi, Sigma, Arr}
 use Rattle.core_syntax.specs.Terms.{IndexValue, DimValue, ShapeValue}
 use Rattle.core_syntax.specs.Typed.{closed, value_index}
 use Rattle.core_syntax.specs.Value.{shape_val}
+use Rattle.core_syntax.specs.Wholes.{program_of}
+use Rattle.remora_driver.specs.Programs.{input_types}
+use Rattle.remora_driver.proofs.Ready.{checked_inputs}
 
 sort_prop : (s : Sort) (v : IndexValue) → IsProp (HasSort s v)
 sort_prop sort.Dim (DimValue n) = Unit-prop
@@ -80,3 +86,7 @@ fits_prop [] [] = Unit-prop
 fits_prop [] (x ∷ xs) = ⊥_prop
 fits_prop (t ∷ ts) [] = ⊥_prop
 fits_prop (t ∷ ts) (x ∷ xs) = ×_prop (fit_prop t x) (fits_prop ts xs)
+
+-- data that fits the types of a checked program's inputs fits those that the check gives
+pub checked_fits : (c : Checked) (xs : List Data) → FitsValues (input_types (program_of c.program)) xs → FitsValues (each ty_of c.inputs) xs
+checked_fits c xs fits = ∥∥₁_elim (checked_inputs c) (fits_prop (each ty_of c.inputs) xs) (λ same. subst (λ (ts : List Ty). FitsValues ts xs) (sym same) fits)
