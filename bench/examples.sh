@@ -1,7 +1,7 @@
 #!/bin/sh
 # Runs the command lines that examples/ and docs/TUTORIAL.md show, and compares what they print with the lines shown below
-# them. It also compares the programs that crate worked_examples runs with those of examples/. It is no part of the gate,
-# and fails where something differs.
+# them. Where an example reads data, its line has the file: `run FILE < DATA`. It also compares the programs and the data of crate
+# worked_examples with those of examples/. It is no part of the gate, and fails where something differs.
 #
 # usage: bench/examples.sh [PROGRAM]    PROGRAM stands for ./remora
 set -eu
@@ -37,9 +37,10 @@ for text in examples/*.remora "$top/docs/TUTORIAL.md"; do
     done
 done
 
-# A program without its comments and empty lines stands in the table of worked_examples.
+# A program, or its data, without its comments and empty lines stands in the table of worked_examples. Data is named as the
+# program that it is for, and a program that has data has a line that reads it.
 table=$(cat "$top/crates/worked_examples/src/programs.rt")
-for text in examples/*.remora; do
+for text in examples/*.remora examples/*.data; do
     source=$(sed '/^;/d; /^$/d' "$text")
     case $table in
         *"\"$source\""*) ;;
@@ -48,5 +49,11 @@ for text in examples/*.remora; do
             failed=1
             ;;
     esac
+done
+for data in examples/*.data; do
+    grep -q "^;   \$ .* ${data%.data}.remora < $data\$" "${data%.data}.remora" || {
+        echo "$data: no line of ${data%.data}.remora reads it" >&2
+        failed=1
+    }
 done
 exit $failed
