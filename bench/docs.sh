@@ -16,7 +16,7 @@ for page in README.md docs/*.md editors/*.md; do
         esac
         base=${page%/*}
         [ "$base" != "$page" ] || base=.
-        for place in "$name" "$base/$name" "docs/$name" crates/"$name" crates/*/"$name" crates/*/src/"$name" crates/*/specs/"$name" crates/*/proofs/"$name" \
+        for place in "$name" "$base/$name" "docs/$name" "bench/$name" crates/"$name" crates/*/"$name" crates/*/src/"$name" crates/*/specs/"$name" crates/*/proofs/"$name" \
             crates/*/proofs/*/"$name"; do
             [ ! -e "$place" ] || continue 2
         done
