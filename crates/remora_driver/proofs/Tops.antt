@@ -1,14 +1,18 @@
 -- What is due for a job, from what its task says of the data that the input has.
 use Rattle.std.proofs.Common.{◌≡◌, refl, ℕ, ◌+◌, ◌<◌, arith, List, [], length, Option, Some, None, Result, Ok, Err}
-use Rattle.std.specs.Prelude.{IfOk, IfSome}
+use Rattle.std.specs.Prelude.{IfOk, IfErr, IfSome}
+use Rattle.rem_base.specs.Taken.{TakesAtMost}
 use Rattle.remora_driver.specs.declared.job.Job.{Job}
 use Rattle.remora_driver.specs.declared.reply.Reply.{Reply}
+use Rattle.remora_driver.specs.declared.status.Status.TheVariants as status
 use Rattle.remora_driver.specs.declared.task.Task.{Task}
 use Rattle.remora_driver.specs.declared.task.Task.TheVariants as task
+use Rattle.remora_driver.specs.declared.top.Halt.{Halt}
+use Rattle.remora_driver.specs.declared.top.Halt.TheVariants as halt
 use Rattle.remora_driver.specs.Due.{Answer, data_refused, front, unfit, with_data, without, IsJobDue, TakesData}
 use Rattle.remora_driver.specs.Sources.{seen}
 use Rattle.remora_driver.specs.Tasks.{IsTaskDue, HasInputs, IsTaskOf}
-use Rattle.remora_driver.specs.Top.{IsTold, IsDueOnInput, IsJobDueFor}
+use Rattle.remora_driver.specs.Top.{HaltsFor, IsTold, IsDueOnInput, IsJobDueFor}
 use Rattle.value_text.specs.DataTexts.{longest_data, too_long}
 use Rattle.remora_driver.proofs.Answers.{told_some, some_bytes}
 use Rattle.remora_driver.proofs.OneData.{due_by_further}
@@ -45,3 +49,26 @@ task_due job bytes t input (Err e) is h = tt
 pub bytes_due : {E : Type 0} (job : Job) (bytes : List ℕ) (left input : Option (List ℕ)) (r : Result Reply E) → IsTold left bytes → IfOk r (λ a. IsDueOnInput (TakesData job bytes) (IsJobDue job bytes) input (seen a)) → IfOk r (λ a. IsJobDueFor job left input (seen a))
 bytes_due job bytes left input (Ok a) told h = (bytes, h.0, told, h.1, h.2)
 bytes_due job bytes left input (Err e) told h = tt
+
+-- ---- what the top call's parts hand on
+
+-- a source that is left alone gave no bytes
+pub takes_nothing : (most : ℕ) (left : Option (List ℕ)) → TakesAtMost most left left
+takes_nothing most None = ([], omega arith, tt)
+takes_nothing most (Some bytes) = ([], omega arith, refl)
+
+-- why a part halts the whole does
+pub halts_further : {V : Type 0} (A B : Type 0) (r : Result V Halt) → (A → B) → IfErr r (λ e. HaltsFor e A) → IfErr r (λ e. HaltsFor e B)
+halts_further A B (Ok v) f h = tt
+halts_further A B (Err halt.ReadFault) f h = f h
+halts_further A B (Err halt.Memory) f h = tt
+
+-- what holds of an answer that is a value, where this is so
+pub ends_where : {E : Type 0} (T A : Type 0) (r : Result Reply E) → T → IfOk r (λ a. a.status ≡ status.Ok → T → A) → IfOk r (λ a. a.status ≡ status.Ok → A)
+ends_where T A (Ok a) t h = λ ok. h ok t
+ends_where T A (Err e) t h = tt
+
+-- and always
+pub ends_always : {E : Type 0} (A : Type 0) (r : Result Reply E) → A → IfOk r (λ a. a.status ≡ status.Ok → A)
+ends_always A (Ok a) x = λ ok. x
+ends_always A (Err e) x = tt
