@@ -1,5 +1,5 @@
 -- What is due, from what the code and the machine say.
-use Rattle.std.proofs.Common.{◌≡◌, refl, sym, ap, subst, ℕ, ◌+◌, ◌<◌, max, arith, List, [], ◌∷◌, length, Option, Some, None, Result, Ok, Err}
+use Rattle.std.proofs.Common.{◌≡◌, refl, sym, ap, subst, ℕ, suc, ◌+◌, ◌<◌, max, arith, List, [], ◌∷◌, length, Option, Some, None, Result, Ok, Err}
 use Rattle.std.specs.Prelude.{IfOk, IfErr, IfSome}
 use Rattle.core_syntax.specs.declared.span.Span.{Span}
 use Rattle.core_syntax.specs.Data.{FitsType}
@@ -53,7 +53,7 @@ pub as_many : (ps : List Param) (inputs : List Array) → EachTwo FitsType (each
 as_many [] [] fits = refl
 as_many [] (a ∷ inputs) fits = absurd fits
 as_many (p ∷ ps) [] fits = absurd fits
-as_many (p ∷ ps) (a ∷ inputs) fits = ap (λ n. n + 1) (as_many ps inputs fits.1)
+as_many (p ∷ ps) (a ∷ inputs) fits = ap suc (as_many ps inputs fits.1)
 
 -- the text of the code that a source has
 pub text_due : {T : Type 0} (bytes : List ℕ) (code : Code) (bytes_of : T → List ℕ) (r : Result T SourceRefusal) → IsCompiled bytes code → IfOk r (λ text. CodeText code (bytes_of text)) → IfOk r (λ text. IsBuildDue bytes (written (bytes_of text)))

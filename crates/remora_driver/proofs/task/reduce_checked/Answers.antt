@@ -23,7 +23,7 @@ returns-in-Ok c =
     c.reduction_answer.ensures
 
 pub returns-in-Err-Refused : goal.returns-in-Err-Refused
-returns-in-Err-Refused c = (
+returns-in-Err-Refused c = rw c.in-Err-Refused.field-0-is (
   data_refused c.in-Err-Refused.number c.in-Err-Refused.span,
   unfit c.in-Err-Refused.number c.in-Err-Refused.span (subst (IsDue c.args.given.now (input_types (program_of c.args.checked.now.program))) c.in-Err-Refused.field-0-is c.in-Err-Refused.ensures.blame) refl,
   refl,

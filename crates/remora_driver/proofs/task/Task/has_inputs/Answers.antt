@@ -1,5 +1,5 @@
 use Rattle.remora_driver.proofs.Tasks.{has_params, has_inputs}
-use Rattle.remora_driver.proofs.task.has_inputs.Goals as goal
+use Rattle.remora_driver.proofs.task.Task.has_inputs.Goals as goal
 
 pub returns-in-Run : goal.returns-in-Run
 returns-in-Run c = rw c.in-Run.is (has_params c.in-Run.code c.params.result.now c.is_empty.result c.params.ensures.params c.is_empty.ensures)
