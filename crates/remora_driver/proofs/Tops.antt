@@ -1,18 +1,15 @@
 -- What is due for a job, from what its task says of the data that the input has.
-use Rattle.std.proofs.Common.{◌≡◌, refl, ℕ, ◌+◌, ◌<◌, arith, List, [], length, Option, Some, None, Result, Ok, Err}
-use Rattle.std.specs.Prelude.{IfOk, IfErr, IfSome}
-use Rattle.rem_base.specs.Taken.{TakesAtMost}
+use Rattle.std.proofs.Common.{◌≡◌, refl, subst, ℕ, ◌+◌, ◌<◌, arith, List, [], length, Option, Some, None, Result, Ok, Err}
+use Rattle.std.specs.Prelude.{IfOk, IfSome}
 use Rattle.remora_driver.specs.declared.job.Job.{Job}
 use Rattle.remora_driver.specs.declared.reply.Reply.{Reply}
 use Rattle.remora_driver.specs.declared.status.Status.TheVariants as status
 use Rattle.remora_driver.specs.declared.task.Task.{Task}
 use Rattle.remora_driver.specs.declared.task.Task.TheVariants as task
-use Rattle.remora_driver.specs.declared.top.Halt.{Halt}
-use Rattle.remora_driver.specs.declared.top.Halt.TheVariants as halt
 use Rattle.remora_driver.specs.Due.{Answer, data_refused, front, unfit, with_data, without, IsJobDue, TakesData}
 use Rattle.remora_driver.specs.Sources.{seen}
 use Rattle.remora_driver.specs.Tasks.{IsTaskDue, HasInputs, IsTaskOf}
-use Rattle.remora_driver.specs.Top.{HaltsFor, IsTold, IsDueOnInput, IsJobDueFor}
+use Rattle.remora_driver.specs.Top.{IsTold, IsDueOnInput, IsJobDueFor}
 use Rattle.value_text.specs.DataTexts.{longest_data, too_long}
 use Rattle.remora_driver.proofs.Answers.{told_some, some_bytes}
 use Rattle.remora_driver.proofs.OneData.{due_by_further}
@@ -52,23 +49,11 @@ bytes_due job bytes left input (Err e) told h = tt
 
 -- ---- what the top call's parts hand on
 
--- a source that is left alone gave no bytes
-pub takes_nothing : (most : ℕ) (left : Option (List ℕ)) → TakesAtMost most left left
-takes_nothing most None = ([], omega arith, tt)
-takes_nothing most (Some bytes) = ([], omega arith, refl)
+-- what holds of a value where data is taken, by what is taken
+pub ends_taken : {E : Type 0} (T T' A : Type 0) (r : Result Reply E) → (T' → T) → IfOk r (λ a. a.status ≡ status.Ok → T → A) → IfOk r (λ a. a.status ≡ status.Ok → T' → A)
+ends_taken T T' A (Ok a) f h = λ ok takes. h ok (f takes)
+ends_taken T T' A (Err e) f h = tt
 
--- why a part halts the whole does
-pub halts_further : {V : Type 0} (A B : Type 0) (r : Result V Halt) → (A → B) → IfErr r (λ e. HaltsFor e A) → IfErr r (λ e. HaltsFor e B)
-halts_further A B (Ok v) f h = tt
-halts_further A B (Err halt.ReadFault) f h = f h
-halts_further A B (Err halt.Memory) f h = tt
-
--- what holds of an answer that is a value, where this is so
-pub ends_where : {E : Type 0} (T A : Type 0) (r : Result Reply E) → T → IfOk r (λ a. a.status ≡ status.Ok → T → A) → IfOk r (λ a. a.status ≡ status.Ok → A)
-ends_where T A (Ok a) t h = λ ok. h ok t
-ends_where T A (Err e) t h = tt
-
--- and always
-pub ends_always : {E : Type 0} (A : Type 0) (r : Result Reply E) → A → IfOk r (λ a. a.status ≡ status.Ok → A)
-ends_always A (Ok a) x = λ ok. x
-ends_always A (Err e) x = tt
+-- what holds of a reply that is a value
+pub ended_so : {E : Type 0} (A : Type 0) (r : Result Reply E) (a : Reply) → r ≡ Ok a → IfOk r (λ x. x.status ≡ status.Ok → A) → a.status ≡ status.Ok → A
+ended_so {E} A r a is h ok = subst (λ (s : Result Reply E). IfOk s (λ x. x.status ≡ status.Ok → A)) is h ok

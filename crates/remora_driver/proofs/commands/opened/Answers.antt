@@ -8,4 +8,6 @@ use Rattle.remora_driver.proofs.commands.opened.Goals as goal
 
 pub returns-in-Err-Refused : goal.returns-in-Err-Refused
 returns-in-Err-Refused c =
-    rw c.in-Err-Refused.field-0-is (refused_opens c.in-Err-Refused.number c.in-Err-Refused.span c.refusal.result c.answered.result c.refusal.ensures c.answered.ensures)
+    subst (λ (r : Result Task SourceRefusal). IfOk c.answered.result (λ b. Opens r b)) (sym c.in-Err-Refused.is)
+    (subst (λ (e : SourceRefusal). IfOk c.answered.result (λ b. Opens (Err e) b)) (sym c.in-Err-Refused.field-0-is)
+    (refused_opens c.in-Err-Refused.number c.in-Err-Refused.span c.refusal.result c.answered.result c.refusal.ensures c.answered.ensures))
