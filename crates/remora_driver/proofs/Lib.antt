@@ -2,7 +2,6 @@ pub mod Answers
 pub mod Called
 pub mod DataArrays
 pub mod Dues
-pub mod InputTypes
 pub mod JobWords
 pub mod Meant
 pub mod OneBlame

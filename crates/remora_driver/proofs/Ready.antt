@@ -10,11 +10,11 @@ use Rattle.core_syntax.specs.Refine.{ty_of}
 use Rattle.core_syntax.specs.Syntax.{Ty, Program}
 use Rattle.core_syntax.specs.Wholes.{program_of}
 use Rattle.lowering.specs.Laws.{code_of_program}
+use Rattle.lowering.proofs.InputTypes.{code_has_inputs}
 use Rattle.reduction_laws.specs.Laws.{IsReady}
 use Rattle.remora_driver.specs.Due.{types_of_inputs}
 use Rattle.remora_driver.specs.Programs.{IsMade, IsProgram, input_types}
 use Rattle.remora_driver.specs.Reductions.{notes_of}
-use Rattle.remora_driver.proofs.InputTypes.{types_are}
 
 -- it is ready to be run
 pub ready : (P : Program) (t : Ty) (notes : List NodeNote) (xs : List Data) → IsMade P t notes → FitsValues (input_types P) xs → IsReady P t notes xs
@@ -22,7 +22,7 @@ ready P t notes xs is fits = record { inputs = input_types P; made = is.made; ch
 
 -- its code's inputs are of the types of its own
 pub inputs_are : (bytes : List ℕ) (P : Program) (notes : List NodeNote) → IsProgram bytes P notes → types_of_inputs (code_of_program P notes) ≡ input_types P
-inputs_are bytes P notes is = types_are P is.source.typed
+inputs_are bytes P notes is = code_has_inputs P notes is.source.typed
 
 -- what the checker gives is made so
 pub checked_inputs : (c : Checked) → ∥ each ty_of c.inputs ≡ input_types (program_of c.program) ∥₁

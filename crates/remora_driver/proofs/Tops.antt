@@ -1,8 +1,9 @@
 -- What is due for a job, from what its task says of the data that the input has.
-use Rattle.std.proofs.Common.{◌≡◌, refl, ℕ, ◌+◌, ◌<◌, arith, List, [], length, Option, Some, None, Result, Ok, Err}
+use Rattle.std.proofs.Common.{◌≡◌, refl, subst, ℕ, ◌+◌, ◌<◌, arith, List, [], length, Option, Some, None, Result, Ok, Err}
 use Rattle.std.specs.Prelude.{IfOk, IfSome}
 use Rattle.remora_driver.specs.declared.job.Job.{Job}
 use Rattle.remora_driver.specs.declared.reply.Reply.{Reply}
+use Rattle.remora_driver.specs.declared.status.Status.TheVariants as status
 use Rattle.remora_driver.specs.declared.task.Task.{Task}
 use Rattle.remora_driver.specs.declared.task.Task.TheVariants as task
 use Rattle.remora_driver.specs.Due.{Answer, data_refused, front, unfit, with_data, without, IsJobDue, TakesData}
@@ -45,3 +46,14 @@ task_due job bytes t input (Err e) is h = tt
 pub bytes_due : {E : Type 0} (job : Job) (bytes : List ℕ) (left input : Option (List ℕ)) (r : Result Reply E) → IsTold left bytes → IfOk r (λ a. IsDueOnInput (TakesData job bytes) (IsJobDue job bytes) input (seen a)) → IfOk r (λ a. IsJobDueFor job left input (seen a))
 bytes_due job bytes left input (Ok a) told h = (bytes, h.0, told, h.1, h.2)
 bytes_due job bytes left input (Err e) told h = tt
+
+-- ---- what the top call's parts hand on
+
+-- what holds of a value where data is taken, by what is taken
+pub ends_taken : {E : Type 0} (T T' A : Type 0) (r : Result Reply E) → (T' → T) → IfOk r (λ a. a.status ≡ status.Ok → T → A) → IfOk r (λ a. a.status ≡ status.Ok → T' → A)
+ends_taken T T' A (Ok a) f h = λ ok takes. h ok (f takes)
+ends_taken T T' A (Err e) f h = tt
+
+-- what holds of a reply that is a value
+pub ended_so : {E : Type 0} (A : Type 0) (r : Result Reply E) (a : Reply) → r ≡ Ok a → IfOk r (λ x. x.status ≡ status.Ok → A) → a.status ≡ status.Ok → A
+ended_so {E} A r a is h ok = subst (λ (s : Result Reply E). IfOk s (λ x. x.status ≡ status.Ok → A)) is h ok

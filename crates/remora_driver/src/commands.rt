@@ -1,5 +1,5 @@
 // What the words ask for, done on the bytes of a source and on data.
-ghost use Rattle.std.specs.Prelude.{◌≡◌, Some, IfOk};
+ghost use Rattle.std.specs.Prelude.{◌≡◌, Some, Err, IfOk};
 ghost use Rattle.core_syntax.specs.Refine.{ty_of};
 ghost use Rattle.remora_driver.specs.Calls.{answer_of};
 ghost use Rattle.remora_driver.specs.Due.{accepted, IsCheckDue, IsBuildDue};
@@ -84,14 +84,23 @@ fn answered(reply: Result<Reply, Memory>) -> Result<Begun, Memory>
     }
 }
 
+// A job of which this is the answer, since it has no task.
+fn unopened(alloc: Global, why: SourceRefusal) -> Result<Begun, Memory>
+    ensures { IfOk result (λ b. Opens (Err why) b) }
+{
+    match why {
+        SourceRefusal::Refused { number, span } => answered(refusal(alloc, number, span)),
+        SourceRefusal::Memory => Err(Memory),
+    }
+}
+
 // A job with this task, or with its refusal as the answer.
 fn opened(alloc: Global, task: Result<Task, SourceRefusal>) -> Result<Begun, Memory>
     ensures { IfOk result (λ b. Opens task b) }
 {
     match task {
         Ok(task) => Ok(Begun::Open(task)),
-        Err(SourceRefusal::Refused { number, span }) => answered(refusal(alloc, number, span)),
-        Err(SourceRefusal::Memory) => Err(Memory),
+        Err(why) => unopened(alloc, why),
     }
 }
 

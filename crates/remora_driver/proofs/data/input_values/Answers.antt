@@ -1,4 +1,4 @@
-use Rattle.std.proofs.Common.{◌≡◌, ap, ◌∙◌, subst, List}
+use Rattle.std.proofs.Common.{ap, ◌∙◌, subst, List}
 use Rattle.std.specs.Prelude.{IfOk, IfErr}
 use Rattle.core_syntax.specs.Lists.{each}
 use Rattle.core_syntax.specs.Syntax.{Ty}

@@ -1,8 +1,8 @@
-use Rattle.std.proofs.Common.{◌≡◌, refl, sym, subst, List, length}
+use Rattle.std.proofs.Common.{◌≡◌, refl, sym, subst, List, length, map}
 use Rattle.core_syntax.specs.Lists.{each}
 use Rattle.array_values.specs.Data.{array_data}
 use Rattle.array_values.specs.Values.{Array}
-use Rattle.machine_table.specs.Codes.{Param}
+use Rattle.machine_table.specs.Codes.{Param, param_of}
 use Rattle.machine_table.specs.ParamTypes.{type_of}
 use Rattle.value_text.specs.DataFits.{Fits}
 use Rattle.value_text.specs.DataTexts.{DataBlame, IsDue}
@@ -29,6 +29,6 @@ returns-in-Err-Refused c = rw c.in-Err-Refused.field-0-is (
   data_refused c.in-Err-Refused.number c.in-Err-Refused.span,
   unfit c.in-Err-Refused.number c.in-Err-Refused.span
   (subst (λ (ps : List Param). DataBlame c.args.given.now (each type_of ps) (c.in-Err-Refused.number, c.in-Err-Refused.span)) c.params.ensures.params
-  (subst (λ (e : DataRefusal). IsDue c.args.given.now _ e) c.in-Err-Refused.field-0-is c.in-Err-Refused.ensures.blame)) refl,
+  (subst (λ (e : DataRefusal). IsDue c.args.given.now (each type_of (map param_of c.params.result.now)) e) c.in-Err-Refused.field-0-is c.in-Err-Refused.ensures.blame)) refl,
   refl,
 )
