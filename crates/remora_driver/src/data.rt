@@ -15,7 +15,11 @@ use value_text::{DataRefusal, read_data};
 
 /// The values of a checked program's inputs, which the data is the text of (docs/LANGUAGE.md, "Data"). It refuses other data
 /// with 40 to 44, and answers `Memory` where there is none.
-pub fn input_values(alloc: Global, checked: &Checked, given: &[u8]) -> Result<Vec<Array>, DataRefusal>
+pub fn input_values(
+    alloc: Global,
+    checked: &Checked,
+    given: &[u8],
+) -> Result<Vec<Array>, DataRefusal>
     ensures found { IfOk result (λ v. Fits given.now (input_types (program_of checked.now.program)) (each array_data v.items)) }
     ensures blame { IfErr result (λ e. IsDue given.now (input_types (program_of checked.now.program)) e) }
 {

@@ -8,7 +8,8 @@ ghost use Rattle.remora_driver.specs.Sources.{seen};
 use crate::errors::{DATA_TOO_LONG, FRONT, TOO_LONG};
 use crate::status::Status;
 use crate::texts::{
-    array_line, data_refusal_line, refusal_line, still_running_line, stuck_line, trap_line, type_line, usage_line,
+    array_line, data_refusal_line, refusal_line, still_running_line, stuck_line, trap_line,
+    type_line, usage_line,
 };
 use array_values::Array;
 use core_syntax::{Memory, Span, StuckKind, TrapKind, Ty};

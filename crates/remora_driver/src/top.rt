@@ -76,7 +76,12 @@ fn task_answer<I: Source>(alloc: Global, task: &Task, input: &mut I) -> Result<R
 }
 
 // The answer to a job on these bytes, with the input as data where it takes some.
-fn bytes_answer<I: Source>(alloc: Global, job: Job, bytes: &[u8], input: &mut I) -> Result<Reply, Halt>
+fn bytes_answer<I: Source>(
+    alloc: Global,
+    job: Job,
+    bytes: &[u8],
+    input: &mut I,
+) -> Result<Reply, Halt>
     ensures due { IfOk result (λ a. IsDueOnInput (TakesData job bytes.now) (IsJobDue job bytes.now) (I.left input.old) (seen a)) }
     ensures fault { IfErr result (λ e. HaltsFor e (Rose (I.faults input.old) (I.faults input.new))) }
     ensures no_fault { result ≢ Err Halt.ReadFault → I.faults input.new ≡ I.faults input.old }

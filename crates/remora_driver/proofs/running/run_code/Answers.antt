@@ -28,7 +28,7 @@ pub returns-in-Err-Refused : goal.returns-in-Err-Refused
 returns-in-Err-Refused c = rw c.in-Err-Refused.field-0-is (
   data_refused c.in-Err-Refused.number c.in-Err-Refused.span,
   unfit c.in-Err-Refused.number c.in-Err-Refused.span
-  (subst (λ (ps : List Param). DataBlame c.args.given.now (each type_of ps) (c.in-Err-Refused.number, c.in-Err-Refused.span)) c.params.ensures.params
-  (subst (λ (e : DataRefusal). IsDue c.args.given.now (each type_of (map param_of c.params.result.now)) e) c.in-Err-Refused.field-0-is c.in-Err-Refused.ensures.blame)) refl,
+      (subst (λ (ps : List Param). DataBlame c.args.given.now (each type_of ps) (c.in-Err-Refused.number, c.in-Err-Refused.span)) c.params.ensures.params
+      (subst (λ (e : DataRefusal). IsDue c.args.given.now (each type_of (map param_of c.params.result.now)) e) c.in-Err-Refused.field-0-is c.in-Err-Refused.ensures.blame)) refl,
   refl,
 )
