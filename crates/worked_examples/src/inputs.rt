@@ -48,7 +48,11 @@ static UNREAD: &[(&str, &str, &str)] = &[
     ("reduce f", "(main ((x Int)) (+ x #t))", "refused 21 1:22"),
     ("build f", "(main ((x Int)) (+ x #t))", "refused 21 1:22"),
     ("exec f", "remora-code 2", "refused 32 1:13"),
-    ("exec f --steps 1", "remora-code 1\nparams 0\nblocks 1\nblock 1\nconst () 7\n", "still running"),
+    (
+        "exec f --steps 1",
+        "remora-code 1\nparams 0\nblocks 1\nblock 1\nconst () 7\n",
+        "still running",
+    ),
 ];
 
 // A code text with an input: it hands its one input on.
@@ -76,7 +80,14 @@ fn unfit(
     prints_on(rt, alloc, "run f", source, data, line.as_str())?;
     prints_on(rt, alloc, "reduce f", source, data, line.as_str())?;
     let built = call(alloc, "build f", source)?;
-    prints_on(rt, alloc, "exec f", built.text.written(), data, line.as_str())
+    prints_on(
+        rt,
+        alloc,
+        "exec f",
+        built.text.written(),
+        data,
+        line.as_str(),
+    )
 }
 
 #[test]
@@ -101,8 +112,8 @@ fn faulted(
     source: &str,
     line: &str,
 ) -> Result<u8, Fail> {
-    let input = MemSource::new(b"5".to_vec(alloc)?, 1, vec![in alloc; 1]?);
-    let called = call_on(alloc, words, source.as_bytes(), input)?;
+    let mut input = MemSource::new(b"5".to_vec(alloc)?, 1, vec![in alloc; 1]?);
+    let called = call_on(alloc, words, source.as_bytes(), &mut input)?;
     let printed = str::from_utf8(called.text.written()).unwrap_or("no text");
     assert_eq!(rt; printed.trim_end(), line, "{words}");
     Ok(called.status.code())
