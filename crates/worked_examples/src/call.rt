@@ -20,7 +20,7 @@ pub struct Called {
 
 /// Calls the program with these words, which blanks separate, and with no input.
 pub fn call(alloc: Global, words: &str, source: &[u8]) -> Result<Called, Fail> {
-    call_on(alloc, words, source, SureSource::new(Vec::new(alloc)))
+    call_on(alloc, words, source, &mut SureSource::new(Vec::new(alloc)))
 }
 
 /// The same with this input.
@@ -28,7 +28,7 @@ pub fn call_on<I: Source>(
     alloc: Global,
     words: &str,
     source: &[u8],
-    mut input: I,
+    input: &mut I,
 ) -> Result<Called, Fail> {
     let mut given = Vec::new(alloc);
     for word in words.split_whitespace() {
@@ -36,7 +36,7 @@ pub fn call_on<I: Source>(
     }
     let mut program = MemSource::new(source.to_vec(alloc)?, PIECE, Vec::new(alloc));
     let mut text = MemSink::new(alloc, ROOM, PIECE, Vec::new(alloc))?;
-    let status = remora(alloc, given.as_slice(), &mut program, &mut input, &mut text);
+    let status = remora(alloc, given.as_slice(), &mut program, input, &mut text);
     Ok(Called { status, text })
 }
 
@@ -76,8 +76,8 @@ pub fn prints_on(
 ) -> Result<(), Fail> {
     let end = if line.is_empty() { "" } else { "\n" };
     let due = format!(in alloc; "{line}{end}")?;
-    let input = MemSource::new(data.to_vec(alloc)?, PIECE, Vec::new(alloc));
-    let called = call_on(alloc, words, source, input)?;
+    let mut input = MemSource::new(data.to_vec(alloc)?, PIECE, Vec::new(alloc));
+    let called = call_on(alloc, words, source, &mut input)?;
     let printed = str::from_utf8(called.text.written()).unwrap_or("no text");
     assert_eq!(rt; printed, due.as_str(), "{words}");
     assert_eq!(rt; called.status.code(), status_of(line), "{words}");

@@ -112,8 +112,8 @@ fn faulted(
     source: &str,
     line: &str,
 ) -> Result<u8, Fail> {
-    let input = MemSource::new(b"5".to_vec(alloc)?, 1, vec![in alloc; 1]?);
-    let called = call_on(alloc, words, source.as_bytes(), input)?;
+    let mut input = MemSource::new(b"5".to_vec(alloc)?, 1, vec![in alloc; 1]?);
+    let called = call_on(alloc, words, source.as_bytes(), &mut input)?;
     let printed = str::from_utf8(called.text.written()).unwrap_or("no text");
     assert_eq!(rt; printed.trim_end(), line, "{words}");
     Ok(called.status.code())
