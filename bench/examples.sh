@@ -3,14 +3,23 @@
 # them. Where an example reads data, its line has the file: `run FILE < DATA`. It also compares the programs and the data of crate
 # worked_examples with those of examples/. It is no part of the gate, and fails where something differs.
 #
-# usage: bench/examples.sh [PROGRAM]    PROGRAM stands for ./remora
+# usage: bench/examples.sh [PROGRAM]    PROGRAM is a built program, which stands for the repository's own
 set -eu
 top=$(dirname -- "$(dirname -- "$(readlink -f -- "$0")")")
-program=$(readlink -f -- "${1:-$top/remora}")
 work=$(mktemp -d)
 trap 'rm -rf "$work"' EXIT
-cd "$work"
-ln -s "$program" remora
+remora=$top/remora
+if [ $# -gt 0 ]; then
+    # the launcher in a tree of its own, where this program is the one that is built
+    mkdir -p "$work/tree/crates/remora_cli/out"
+    cp "$top/remora" "$top/crates.txt" "$work/tree"
+    ln -s "$top/docs" "$work/tree/docs"
+    ln -s "$(readlink -f -- "$1")" "$work/tree/crates/remora_cli/out/remora_cli"
+    remora=$work/tree/remora
+fi
+mkdir "$work/here"
+cd "$work/here"
+ln -s "$remora" remora
 ln -s "$top/examples" examples
 failed=0
 
