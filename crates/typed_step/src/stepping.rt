@@ -4,12 +4,13 @@ ghost use Rattle.core_syntax.specs.Lists.{each};
 ghost use Rattle.core_syntax.specs.RefineTerms.{term_of};
 ghost use Rattle.typed_step.specs.Steps.{Stepped, Reduced, IsEnd, Looked, Came, IsTrap};
 
-use crate::closed::{Closed, DEEPEST, Next};
+use crate::closed::{Closed, Next};
 use crate::outcome::End;
 use crate::run::run;
 use core_syntax::{Memory, TermExpr, TrapKind};
 use sqlite_items::Items;
 use std::alloc::Global;
+use term_values::DEEPEST;
 
 /// One step of a closed term (docs/LANGUAGE.md, "Reduction"): it is a value, it traps, or it goes to the next term.
 ///

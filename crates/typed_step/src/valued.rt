@@ -9,13 +9,12 @@ ghost use Rattle.core_syntax.specs.RefineTerms.{term_of, cell_of, cells_of};
 ghost use Rattle.core_syntax.specs.Syntax.{Ty};
 ghost use Rattle.core_syntax.specs.Typed.{closed_value, typed_rules};
 
-use crate::closed::{Closed, DEEPEST};
-use crate::indices::{number, shape_dims};
-use crate::values::{atoms, dims};
+use crate::closed::Closed;
 use array_values::{Array, ArrayOf, BoxedValue, IndexValue, Shared, Value};
 use core_syntax::{Index, IndexForm, Memory, TermAtom, TermExpr};
 use sqlite_items::Items;
 use std::alloc::Global;
+use term_values::{DEEPEST, atoms, dims, number, shape_dims};
 
 /// The array of a value of a printable type (docs/LANGUAGE.md, "Values"): its dims and its atoms, without types, and with the
 /// values of its boxes' indices.

@@ -1,0 +1,3 @@
+pub mod ArrayCuts
+pub mod ArrayRows
+pub mod ScalarAnswers

@@ -1,0 +1,10 @@
+//! What primitives give on the values of typed terms.
+#![tactic(auto)]
+
+mod answer;
+mod arrays;
+mod delta;
+mod outcome;
+
+pub use delta::delta;
+pub use outcome::Outcome;
