@@ -224,8 +224,8 @@ pub fn with_atoms(
     Ok(array(dims, atoms))
 }
 
-/// The empty array of these dims.
-fn no_atoms(alloc: Global, dims: Items<u32>, cell: &Ty) -> Result<TermExpr, Memory>
+/// The empty array of these dims, with the type of a cell's atoms.
+pub fn no_atoms(alloc: Global, dims: Items<u32>, cell: &Ty) -> Result<TermExpr, Memory>
     ensures { IfOk result (λ t. term_of t ≡ TNoAtoms dims (atoms_type (ty_of cell.now))) }
 {
     let ty = atom_type(alloc, cell)?;

@@ -16,7 +16,7 @@ pub const DEEPEST: u32 = 512;
 pub const MOST_CELLS: u64 = 1 << 24;
 
 /// The most dims of an array.
-const MOST_DIMS: usize = 64;
+pub const MOST_DIMS: usize = 64;
 
 /// The dims of a value; any other term has none.
 pub fn dims(term: &TermExpr) -> &[u32]

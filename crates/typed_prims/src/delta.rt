@@ -14,16 +14,17 @@ ghost use Rattle.core_syntax.specs.Terms.{IndexValue, TPrim};
 ghost use Rattle.core_syntax.specs.Typed.{atom_type, typed_rules};
 ghost use Rattle.typed_prims.specs.Answers.{answer_given, answer_on, answer_on_looks, array_of, look_of, move_on, seen_of, IsPlain};
 ghost use Rattle.typed_prims.specs.ArrayAnswers.{IsOnArrays};
+ghost use Rattle.typed_prims.specs.Boxes.{GivesBox};
 ghost use Rattle.typed_prims.specs.Outcomes.{move_of};
 ghost use Rattle.typed_prims.specs.declared.delta.Given.TheVariants as gives;
 
 use crate::answer::answer_term;
 use crate::outcome::Outcome;
-use crate::arrays;
+use crate::{arrays, boxes, folds};
 use core_syntax::{Index, Memory, Primitive, TermAtom, TermExpr, TrapKind, Ty};
 use sqlite_items::Items;
 use std::alloc::Global;
-use term_values::{push_copies, scalar, with_atoms};
+use term_values::scalar;
 
 /// What a primitive of scalars sees of an argument: its one atom, where that is no function and no box.
 #[derive(Clone, Copy, Debug, PartialEq, Eq)]
@@ -44,8 +45,9 @@ enum Given {
     Unfit,
 }
 
-/// A primitive with its types and its indices on arguments: its value or its trap. `reduce`, `fold`, `iota`, `reshape`, `ravel`
-/// and `filter` aren't done yet, and find no memory.
+/// A primitive with its types and its indices on arguments, which are values, where the result's cell has this type
+/// (docs/LANGUAGE.md, "What primitives give"): its value, its trap, or the nested applications of a fold. What would nest
+/// deeper than `room` finds no memory.
 pub fn delta(
     alloc: Global,
     primitive: Primitive,
@@ -133,12 +135,11 @@ fn answer_of(
         | Primitive::Length
         | Primitive::Positions
         | Primitive::IndexOr => on_arrays(alloc, primitive, indices, args, answer, room),
-        Primitive::Reduce
-        | Primitive::Fold
-        | Primitive::Iota
-        | Primitive::Reshape
-        | Primitive::Ravel
-        | Primitive::Filter => Err(Memory),
+        Primitive::Reduce => folds::reduce(alloc, types, indices, args, room),
+        Primitive::Fold => folds::fold(alloc, types, indices, args, room),
+        Primitive::Iota | Primitive::Reshape | Primitive::Ravel | Primitive::Filter => {
+            on_boxes(alloc, primitive, args, answer, room)
+        }
         _ => given_term(alloc, on_scalars(primitive, args)),
     }
 }
@@ -156,6 +157,23 @@ fn on_arrays(
     ensures { (us : Option (List SyntaxTy)) → IfOk result (λ o. move_of o ≡ move_on (ty_of answer.now) primitive us (option_map (each index_of) indices.now) args.now) }
 {
     match arrays::on_arrays(alloc, primitive, indices, args, room) {
+        Ok(given) => answer_term(alloc, given, answer),
+        Err(memory) => Err(memory),
+    }
+}
+
+/// A primitive that gives a box.
+fn on_boxes(
+    alloc: Global,
+    primitive: Primitive,
+    args: &[TermExpr],
+    answer: &Ty,
+    room: u32,
+) -> Result<Outcome, Memory>
+    requires { GivesBox primitive }
+    ensures { (us : Option (List SyntaxTy)) (is : Option (List SyntaxIndex)) → IfOk result (λ o. move_of o ≡ move_on (ty_of answer.now) primitive us is args.now) }
+{
+    match boxes::on_boxes(alloc, primitive, args, answer, room) {
         Ok(given) => answer_term(alloc, given, answer),
         Err(memory) => Err(memory),
     }
@@ -322,14 +340,12 @@ fn select(alloc: Global, args: &[TermExpr], answer: &Ty, room: u32) -> Result<Ou
     }
 }
 
-/// The dims and the atoms of a value as an array with the atoms' type of a cell where it has none.
+/// A copy of a value, with the atoms' type of a cell where it has none.
 fn copied(alloc: Global, value: &TermExpr, cell: &Ty, room: u32) -> Result<Outcome, Memory>
     ensures { IfOk result (λ o. move_of o ≡ Goes (array_term typed_rules (atom_type (ty_of cell.now)) (array_of value.now))) }
 {
-    let dims = Items::from_slice(alloc, term_values::dims(value)).map_err(|_| Memory)?;
-    let mut atoms = Vec::new(alloc);
-    push_copies(&mut atoms, alloc, term_values::atoms(value), room)?;
-    match with_atoms(alloc, dims, atoms, cell) {
+    let (dims, atoms) = (term_values::dims(value), term_values::atoms(value));
+    match folds::value(alloc, dims, atoms, cell, room) {
         Ok(array) => Ok(Outcome::Goes(array)),
         Err(memory) => Err(memory),
     }

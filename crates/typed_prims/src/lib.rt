@@ -3,7 +3,9 @@
 
 mod answer;
 mod arrays;
+mod boxes;
 mod delta;
+mod folds;
 mod outcome;
 
 pub use delta::delta;
