@@ -118,7 +118,7 @@ fn put_terms(
     let mut put = Vec::new(alloc);
     for term in terms {
         let one = put_term(alloc, term, puts, under, room)?;
-        put.push(one).map_err(|_| Memory)?;
+        put.push(one)?;
     }
     Ok(put)
 }
@@ -189,7 +189,7 @@ fn put_atoms(
     let mut put = Vec::new(alloc);
     for atom in atoms {
         let one = put_atom(alloc, atom, puts, under, room)?;
-        put.push(one).map_err(|_| Memory)?;
+        put.push(one)?;
     }
     Ok(put)
 }

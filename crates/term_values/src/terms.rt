@@ -45,11 +45,7 @@ pub fn type_application(function: Part<TermExpr>, types: Items<Ty>, answer: Ty) 
 }
 
 /// `(i-app e i ..)` and the type of the result's cell.
-pub fn index_application(
-    function: Part<TermExpr>,
-    indices: Items<Index>,
-    answer: Ty,
-) -> TermExpr
+pub fn index_application(function: Part<TermExpr>, indices: Items<Index>, answer: Ty) -> TermExpr
     ensures { term_of result ≡ TIndexApp (term_of function) (each index_of indices) (ty_of answer) }
 {
     TermExpr::IndexApp(function, indices, answer)
@@ -181,11 +177,7 @@ pub fn scalar(alloc: Global, atom: TermAtom) -> Result<TermExpr, Memory>
 }
 
 /// The scalar array of a copy of an atom, as a part of a term with this room.
-pub fn copied_scalar(
-    alloc: Global,
-    atom: &TermAtom,
-    room: u32,
-) -> Result<Part<TermExpr>, Memory>
+pub fn copied_scalar(alloc: Global, atom: &TermAtom, room: u32) -> Result<Part<TermExpr>, Memory>
     ensures { IfOk result (λ t. term_of t ≡ scalar_of (cell_of atom.now)) }
 {
     let room = room.checked_sub(1).ok_or(Memory)?;
@@ -197,11 +189,7 @@ pub fn copied_scalar(
 }
 
 /// A copy of a term as a part of a term with this room.
-pub fn copied_part(
-    alloc: Global,
-    term: &TermExpr,
-    room: u32,
-) -> Result<Part<TermExpr>, Memory>
+pub fn copied_part(alloc: Global, term: &TermExpr, room: u32) -> Result<Part<TermExpr>, Memory>
     ensures { IfOk result (λ t. t ≡ term.now) }
 {
     let room = room.checked_sub(1).ok_or(Memory)?;
@@ -233,11 +221,7 @@ pub fn no_atoms(alloc: Global, dims: Items<u32>, cell: &Ty) -> Result<TermExpr, 
 }
 
 /// Copies of the dims and of the cell's type of a frame.
-pub fn frame_parts(
-    alloc: Global,
-    frame: &[u32],
-    cell: &Ty,
-) -> Result<(Items<u32>, Ty), Memory>
+pub fn frame_parts(alloc: Global, frame: &[u32], cell: &Ty) -> Result<(Items<u32>, Ty), Memory>
     ensures { IfOk result (λ parts. (parts.0 ≡ frame.now) × (parts.1 ≡ cell.now)) }
 {
     let dims = Items::from_slice(alloc, frame).map_err(|_| Memory)?;

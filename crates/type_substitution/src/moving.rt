@@ -83,7 +83,7 @@ fn moved_indices(alloc: Global, indices: &[Index], shift: Shift) -> Result<Items
     let mut moved = Vec::new(alloc);
     for index in indices {
         let one = moved_index(alloc, index, shift)?;
-        moved.push(one).map_err(|_| Memory)?;
+        moved.push(one)?;
     }
     Ok(Items::from_vec(moved))
 }
@@ -162,7 +162,7 @@ fn moved_types(
     let mut moved = Vec::new(alloc);
     for ty in list {
         let one = moved_type(alloc, ty, types, indices, room)?;
-        moved.push(one).map_err(|_| Memory)?;
+        moved.push(one)?;
     }
     Ok(Items::from_vec(moved))
 }

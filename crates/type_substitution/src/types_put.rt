@@ -105,7 +105,7 @@ fn put_indices(
     let mut put = Vec::new(alloc);
     for index in indices {
         let one = put_index(alloc, index, with, under)?;
-        put.push(one).map_err(|_| Memory)?;
+        put.push(one)?;
     }
     Ok(Items::from_vec(put))
 }
@@ -240,7 +240,7 @@ fn put_trees(
     let mut put = Vec::new(alloc);
     for tree in trees {
         let one = put_tree(alloc, tree, types, indices, under, room)?;
-        put.push(one).map_err(|_| Memory)?;
+        put.push(one)?;
     }
     Ok(Items::from_vec(put))
 }

@@ -324,9 +324,8 @@ pub(crate) fn numbers(alloc: Global, count: u32) -> Result<Vec<TermAtom>, Memory
 fn push_number(atoms: &mut Vec<TermAtom>, number: u32) -> Result<(), Memory>
     ensures { OnOk result (atoms.new.items ≡ atoms.old.items ++ atom.Int (pos number) ∷ []) }
 {
-    atoms
-        .push(TermAtom::Int(i64::from(number)))
-        .map_err(|_| Memory)
+    atoms.push(TermAtom::Int(i64::from(number)))?;
+    Ok(())
 }
 
 /// `index-or`: the leading cell at a place, or the other array where there is none.
@@ -381,7 +380,7 @@ fn cell_place(place: i64, count: u32) -> Option<usize>
 fn copied(alloc: Global, dims: &[u32], atoms: &[TermAtom], room: u32) -> Result<Answer, Memory>
     ensures { IfOk result (λ x. answer_is x ≡ gives dims.now (each cell_of atoms.now)) }
 {
-    let dims = Items::from_slice(alloc, dims).map_err(|_| Memory)?;
+    let dims = Items::from_slice(alloc, dims)?;
     let atoms = copied_atoms(alloc, atoms, room)?;
     Ok(Answer::Gives(dims, atoms))
 }

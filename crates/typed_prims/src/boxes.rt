@@ -248,7 +248,7 @@ fn asked_dims(alloc: Global, atoms: &[TermAtom]) -> Result<Option<Items<u32>>, M
         if dim > u64::from(u32::MAX) {
             return Ok(None);
         }
-        dims.push(dim as u32).map_err(|_| Memory)?;
+        dims.push(dim as u32)?;
     }
     if term_values::forms(dims.as_slice()) {
         Ok(Some(Items::from_vec(dims)))
@@ -322,7 +322,7 @@ fn cycled(
     let mut all = Vec::new(alloc);
     for place in 0..count {
         let atom = picked(alloc, atoms, fill, place as usize, room)?;
-        all.push(atom).map_err(|_| Memory)?;
+        all.push(atom)?;
     }
     Ok(all)
 }

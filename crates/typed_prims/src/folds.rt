@@ -36,7 +36,7 @@ struct Cells<'a> {
 /// What is applied again and again: the function, the shapes of its two arguments' cells, the type of the result's cell, and
 /// the type of an item's cell.
 #[derive(Clone, Copy)]
-struct Fold<'a> {
+struct FoldStep<'a> {
     function: &'a TermAtom,
     shapes: &'a [Index],
     answer: &'a Ty,
@@ -126,7 +126,7 @@ fn reduce_with(
     }
     let answer = result_type(alloc, types, 0, shape)?;
     let shapes = two_shapes(alloc, shape, shape)?;
-    let fold = Fold {
+    let fold = FoldStep {
         function,
         shapes: shapes.as_slice(),
         answer: &answer,
@@ -226,7 +226,7 @@ fn fold_with(
     let answer = result_type(alloc, types, 1, accumulated)?;
     let item = result_type(alloc, types, 0, shape)?;
     let shapes = two_shapes(alloc, accumulated, shape)?;
-    let fold = Fold {
+    let fold = FoldStep {
         function,
         shapes: shapes.as_slice(),
         answer: &answer,
@@ -272,9 +272,9 @@ fn two_shapes(alloc: Global, first: &Index, second: &Index) -> Result<Items<Inde
 {
     let mut shapes = Vec::new(alloc);
     let shape = first.copy(alloc)?;
-    shapes.push(shape).map_err(|_| Memory)?;
+    shapes.push(shape)?;
     let shape = second.copy(alloc)?;
-    shapes.push(shape).map_err(|_| Memory)?;
+    shapes.push(shape)?;
     Ok(Items::from_vec(shapes))
 }
 
@@ -288,7 +288,7 @@ pub(crate) fn value(
 ) -> Result<TermExpr, Memory>
     ensures { IfOk result (λ t. term_of t ≡ array_term_of typed_rules (atoms_type (ty_of cell.now)) dims.now (each cell_of atoms.now)) }
 {
-    let dims = Items::from_slice(alloc, dims).map_err(|_| Memory)?;
+    let dims = Items::from_slice(alloc, dims)?;
     let atoms = copied_atoms(alloc, atoms, room)?;
     with_atoms(alloc, dims, atoms, cell)
 }
@@ -310,7 +310,7 @@ fn item_at(
 /// The applications to the items from a place on, one around the other, where they are no more than `room`.
 fn nested(
     alloc: Global,
-    fold: Fold<'_>,
+    fold: FoldStep<'_>,
     first: TermExpr,
     cells: Cells<'_>,
     from: u32,
@@ -332,7 +332,7 @@ fn nested(
 /// The application to an accumulator and the item at a place.
 fn applied(
     alloc: Global,
-    fold: Fold<'_>,
+    fold: FoldStep<'_>,
     acc: TermExpr,
     cells: Cells<'_>,
     place: u32,
@@ -349,7 +349,7 @@ fn applied(
 /// The application to two arguments.
 fn applied_to(
     alloc: Global,
-    fold: Fold<'_>,
+    fold: FoldStep<'_>,
     acc: TermExpr,
     item: TermExpr,
     room: u32,
@@ -386,7 +386,7 @@ fn with_second(mut pair: Vec<TermExpr>, second: TermExpr) -> Result<Vec<TermExpr
 /// The application to arguments.
 fn applied_to_pair(
     alloc: Global,
-    fold: Fold<'_>,
+    fold: FoldStep<'_>,
     args: Vec<TermExpr>,
     room: u32,
 ) -> Result<TermExpr, Memory>
@@ -401,7 +401,7 @@ fn applied_to_pair(
 /// Copies of the function, the shapes and the type of the result's cell.
 fn fold_parts(
     alloc: Global,
-    fold: Fold<'_>,
+    fold: FoldStep<'_>,
     room: u32,
 ) -> Result<(Part<TermExpr>, Items<Index>, Ty), Memory>
     ensures { IfOk result (λ parts. (term_of parts.0 ≡ scalar_of (cell_of fold.entry.function.now)) × (parts.1 ≡ fold.entry.shapes.now) × (parts.2 ≡ fold.entry.answer.now)) }

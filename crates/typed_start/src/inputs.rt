@@ -38,7 +38,7 @@ fn indices(alloc: Global, values: &[IndexValue]) -> Result<Items<Index>, Memory>
     let mut indices = Vec::new(alloc);
     for value in values {
         let index = index(alloc, value)?;
-        indices.push(index).map_err(|_| Memory)?;
+        indices.push(index)?;
     }
     Ok(Items::from_vec(indices))
 }
@@ -74,7 +74,7 @@ fn atoms(alloc: Global, ty: &Ty, array: &Array, room: u32) -> Result<Vec<TermAto
     let mut atoms = Vec::new(alloc);
     for place in 0..array.len() {
         let atom = atom(alloc, ty, array.atom_at(place), room)?;
-        atoms.push(atom).map_err(|_| Memory)?;
+        atoms.push(atom)?;
     }
     Ok(atoms)
 }
@@ -142,7 +142,7 @@ pub(crate) fn arrays(
     let mut terms = Vec::new(alloc);
     for place in 0..types.len() {
         let term = array(alloc, &types[place], &inputs[place], room)?;
-        terms.push(term).map_err(|_| Memory)?;
+        terms.push(term)?;
     }
     Ok(terms)
 }

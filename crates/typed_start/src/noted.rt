@@ -54,7 +54,7 @@ fn word_indices(alloc: Global, words: &[NormShape]) -> Result<Items<Index>, Memo
     let mut indices = Vec::new(alloc);
     for word in words {
         let index = word_index(alloc, word)?;
-        indices.push(index).map_err(|_| Memory)?;
+        indices.push(index)?;
     }
     Ok(Items::from_vec(indices))
 }
@@ -83,7 +83,7 @@ fn unboxed_sorts(alloc: Global, note: Option<&Note>) -> Result<Items<Sort>, Memo
 pub(crate) fn no_atoms(alloc: Global, dims: &[u32], atom: &Ty) -> Result<TermExpr, Memory>
     ensures { IfOk result (λ t. term_of t ≡ TNoAtoms dims.now (ty_of atom.now)) }
 {
-    let dims = Items::from_slice(alloc, dims).map_err(|_| Memory)?;
+    let dims = Items::from_slice(alloc, dims)?;
     let atom = atom.copy(alloc)?;
     Ok(TermExpr::NoAtoms(dims, atom))
 }
@@ -92,7 +92,7 @@ pub(crate) fn no_atoms(alloc: Global, dims: &[u32], atom: &Ty) -> Result<TermExp
 pub(crate) fn no_cells(alloc: Global, dims: &[u32], cell: &Ty) -> Result<TermExpr, Memory>
     ensures { IfOk result (λ t. term_of t ≡ TNoCells (record { dims = dims.now; cell = ty_of cell.now })) }
 {
-    let dims = Items::from_slice(alloc, dims).map_err(|_| Memory)?;
+    let dims = Items::from_slice(alloc, dims)?;
     let cell = cell.copy(alloc)?;
     Ok(TermExpr::NoCells(dims, cell))
 }
@@ -106,7 +106,7 @@ pub(crate) fn frame(
 ) -> Result<TermExpr, Memory>
     ensures { IfOk result (λ t. term_of t ≡ TFrame dims.now (terms_of cells.items) (noted (note_read (option_copied note.entry)).cell)) }
 {
-    let dims = Items::from_slice(alloc, dims).map_err(|_| Memory)?;
+    let dims = Items::from_slice(alloc, dims)?;
     let cell = cell_type(alloc, note)?;
     Ok(term_values::frame(dims, cells, cell))
 }

@@ -102,7 +102,7 @@ fn annotated_all(
     let mut terms = Vec::new(alloc);
     for expr in exprs {
         let term = annotated(alloc, expr, notes, at)?;
-        terms.push(term).map_err(|_| Memory)?;
+        terms.push(term)?;
     }
     Ok(terms)
 }
@@ -154,7 +154,7 @@ fn annotated_atoms(
     let mut made = Vec::new(alloc);
     for atom in atoms {
         let one = annotated_atom(alloc, atom, notes, at)?;
-        made.push(one).map_err(|_| Memory)?;
+        made.push(one)?;
     }
     Ok(made)
 }
@@ -171,7 +171,7 @@ pub fn annotated_defs(
     let mut terms = Vec::new(alloc);
     for def in defs {
         let term = annotated(alloc, &def.value, notes, at)?;
-        terms.push(term).map_err(|_| Memory)?;
+        terms.push(term)?;
     }
     Ok(Items::from_vec(terms))
 }

@@ -34,7 +34,7 @@ pub(crate) fn ranks(
     for place in 0..args.len() {
         match rank(alloc, &cells[place], &args[place])? {
             None => return Ok(None),
-            Some(rank) => ranks.push(rank).map_err(|_| Memory)?,
+            Some(rank) => ranks.push(rank)?,
         }
     }
     Ok(Some(ranks))
@@ -199,7 +199,7 @@ fn all_lifted(
     let mut all = Vec::new(alloc);
     for place in 0..args.len() {
         let arg = lifted(alloc, frame, ranks[place], &args[place], room)?;
-        all.push(arg).map_err(|_| Memory)?;
+        all.push(arg)?;
     }
     Ok(all)
 }
@@ -326,7 +326,7 @@ fn all_mapped(
     let mut cells = Vec::new(alloc);
     for (place, function) in (0..count).zip(functions) {
         let cell = mapped(alloc, place, function, ranks, application, room)?;
-        cells.push(cell).map_err(|_| Memory)?;
+        cells.push(cell)?;
     }
     Ok(cells)
 }
@@ -367,7 +367,7 @@ fn arguments_at(
     let mut cells = Vec::new(alloc);
     for i in 0..args.len() {
         let cell = cell_at(alloc, place, ranks[i], &args[i], room)?;
-        cells.push(cell).map_err(|_| Memory)?;
+        cells.push(cell)?;
     }
     Ok(cells)
 }
@@ -383,7 +383,7 @@ fn cell_at(
     ensures { IfOk result (λ t. term_of t ≡ one_at place rank (term_of term.now)) }
 {
     let cell = back(term_values::dims(term), rank);
-    let dims = Items::from_slice(alloc, cell).map_err(|_| Memory)?;
+    let dims = Items::from_slice(alloc, cell)?;
     match term {
         TermExpr::NoAtoms(_, ty) => Ok(TermExpr::NoAtoms(dims, ty.copy(alloc)?)),
         _ => {

@@ -201,7 +201,7 @@ fn over_types(
     let mut cells = Vec::new(alloc);
     for atom in atoms {
         let cell = type_application(alloc, atom, types, answer, room)?;
-        cells.push(cell).map_err(|_| Memory)?;
+        cells.push(cell)?;
     }
     Ok(cells)
 }
@@ -329,7 +329,7 @@ fn over_indices(
     let mut cells = Vec::new(alloc);
     for atom in atoms {
         let cell = index_application(alloc, atom, indices, answer, room)?;
-        cells.push(cell).map_err(|_| Memory)?;
+        cells.push(cell)?;
     }
     Ok(cells)
 }
@@ -411,7 +411,7 @@ fn over_boxes(
     let mut cells = Vec::new(alloc);
     for atom in atoms {
         let cell = unboxing(alloc, sorts, atom, body, answer, room)?;
-        cells.push(cell).map_err(|_| Memory)?;
+        cells.push(cell)?;
     }
     Ok(cells)
 }
@@ -427,7 +427,7 @@ fn unboxing(
 ) -> Result<TermExpr, Memory>
     ensures { IfOk result (λ t. term_of t ≡ TUnbox sorts.now (scalar_of (cell_of atom.now)) (term_of body.now) (ty_of answer.now)) }
 {
-    let sorts = Items::from_slice(alloc, sorts).map_err(|_| Memory)?;
+    let sorts = Items::from_slice(alloc, sorts)?;
     let answer = answer.copy(alloc)?;
     let boxed = copied_scalar(alloc, atom, room)?;
     match copied_part(alloc, body, room) {

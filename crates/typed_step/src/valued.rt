@@ -48,7 +48,7 @@ fn atoms_of(alloc: Global, atoms: &[TermAtom], room: u32) -> Result<Vec<Value>, 
     let mut values = Vec::new(alloc);
     for atom in atoms {
         let value = atom_of(alloc, atom, room)?;
-        values.push(value).map_err(|_| Memory)?;
+        values.push(value)?;
     }
     Ok(values)
 }
@@ -94,7 +94,7 @@ fn indices_of(alloc: Global, indices: &[Index]) -> Result<Items<IndexValue>, Mem
     let mut values = Vec::new(alloc);
     for index in indices {
         let value = index_value(alloc, index)?;
-        values.push(value).map_err(|_| Memory)?;
+        values.push(value)?;
     }
     Ok(Items::from_vec(values))
 }
