@@ -1,6 +1,6 @@
 -- The boxes that primitives give.
-use Rattle.std.proofs.Common.{◌≡◌, refl, sym, ◌∙◌, ap, subst, ℕ, suc, ◌-◌, ◌*◌, ◌^◌, ◌+◌, ◌≤◌, ◌<◌, min, arith, length, get_or, take, drop, List, [], ◌∷◌, ◌++◌, Option, Some, None, true, false, pos}
-use Rattle.std.specs.Prelude.{◌%◌, slice_index_or}
+use Rattle.std.proofs.Common.{◌≡◌, refl, sym, ◌∙◌, ap, subst, ℕ, zero, suc, ◌-◌, ◌*◌, ◌^◌, ◌+◌, ◌≤◌, ◌<◌, min, arith, length, get_or, take, drop, List, [], ◌∷◌, ◌++◌, Option, Some, None, Bool, true, false, pos}
+use Rattle.std.specs.Prelude.{◌%◌, slice_get, slice_index_or}
 use Rattle.core_syntax.specs.declared.errors.TrapKind.TheVariants as trap
 use Rattle.core_syntax.specs.declared.term.TermAtom.{TermAtom}
 use Rattle.core_syntax.specs.declared.term.TermExpr.{TermExpr}
@@ -14,10 +14,10 @@ use Rattle.core_syntax.specs.Rules.{array_term_of, atom_rules, atoms_of, dims_of
 use Rattle.core_syntax.specs.Syntax.{Ty, Index}
 use Rattle.core_syntax.specs.Terms.{IndexValue, DimValue, ShapeValue, TBool, TBoxed, TChar, TFn, TIndexFn, TInt, TPrim, TTypeFn}
 use Rattle.core_syntax.specs.Typed.{atom_type, content_type, typed_rules, value_index, TypedTerm}
-use Rattle.naturality.proofs.Eaches.{each_joined, each_length, each_picked, each_runs}
+use Rattle.naturality.proofs.Eaches.{each_append, each_joined, each_length, each_picked, each_runs, each_take}
 use Rattle.naturality.proofs.Counts.{form_of, mapped_count, run_count}
 use Rattle.prim_kernels.proofs.ArrayRows.{behind, split_first}
-use Rattle.prim_kernels.proofs.Asked.{formed_some}
+use Rattle.prim_kernels.proofs.Asked.{each_more, formed_some}
 use Rattle.typed_prims.specs.Answers.{array_of}
 use Rattle.typed_prims.specs.ArrayAnswers.{formed_dims, places}
 use Rattle.typed_prims.specs.Boxes.{count_marks, cycled, wanted}
@@ -31,6 +31,35 @@ boxed_is b v is js t dims xs e same is_t =
     (λ i. TBoxed (e i) (is_t i) b) ∙ ap (λ ks. TBoxed (value_index v ∷ []) (array_term_of typed_rules (atom_type (content_type b ks)) dims xs) b) (same ∙ e)
 
 -- ---- the dims that atoms ask for
+
+-- one atom more
+pub wanted_more : (xs : List TermAtom) (k y : ℕ) → slice_get (each wanted (each cell_of xs)) k ≡ Some y → each wanted (each cell_of (take k xs)) ++ y ∷ [] ≡ each wanted (each cell_of (take (k + 1) xs))
+wanted_more xs k y e =
+    ap (λ zs. each wanted zs ++ y ∷ []) (sym (each_take cell_of k xs)) ∙ each_more wanted (each cell_of xs) k y e ∙ ap (each wanted) (each_take cell_of (k + 1) xs)
+
+-- no array has more than 64 dims
+pub no_rank : (xs : List TermAtom) → 64 < length xs → ◌≡◌ {A = Option (List ℕ)} None (formed_dims (each wanted (each cell_of xs)))
+no_rank xs h = by (forms (each wanted (each cell_of xs))) refl
+  where
+    counted : length (each wanted (each cell_of xs)) ≡ length xs
+    counted = mapped_count wanted (each cell_of xs) ∙ mapped_count cell_of xs
+
+    by : (b : Bool) → forms (each wanted (each cell_of xs)) ≡ b → ◌≡◌ {A = Option (List ℕ)} None (elim b [ true ↦ Some (each wanted (each cell_of xs)) | false ↦ None ])
+    by true e = absurd (let f = (form_of (each wanted (each cell_of xs)) e).rank in let g : ⊥ = omega (arith, h, f, counted) in g)
+    by false e = refl
+
+-- one atom more again
+counting_push : (k n : ℕ) → counting k (suc n) ≡ counting k n ++ (k + n) ∷ []
+counting_push k zero = ap (λ m. m ∷ []) (let e : k ≡ k + 0 = omega arith in e)
+counting_push k (suc n) = ap (λ ms. k ∷ ms) (counting_push (suc k) n ∙ ap (λ m. counting (suc k) n ++ m ∷ []) (let e : suc k + n ≡ k + suc n = omega arith in e))
+
+pub cycled_more : {A : Type 0} (xs : List A) (fill : A) (n : ℕ) → cycled xs fill n ++ slice_index_or xs (n % length xs) fill ∷ [] ≡ cycled xs fill (n + 1)
+cycled_more xs fill n =
+    sym
+    (ap (cycled xs fill) (let e : n + 1 ≡ suc n = omega arith in e)
+    ∙ ap (each (λ j. slice_index_or xs (j % length xs) fill)) (counting_push 0 n)
+    ∙ sym (each_append (λ j. slice_index_or xs (j % length xs) fill) (counting 0 n) ((0 + n) ∷ []))
+    ∙ ap (λ k. cycled xs fill n ++ slice_index_or xs (k % length xs) fill ∷ []) (let e : 0 + n ≡ n = omega arith in e))
 
 module _ (r : Ty) where
   -- how primitives see and make atoms here
@@ -101,9 +130,9 @@ module _ (r : Ty) where
 
   -- ---- `ravel` and `filter`
 
-  pub ravel_gives : (a : TermExpr) (atoms all : List TermAtom) (dims : List ℕ) (n : ℕ) → each cell_of atoms ≡ atoms_of typed_rules (term_of a) → n ≡ length atoms
+  pub ravel_gives : (a : TermExpr) (atoms : List TermAtom) (n : ℕ) → each cell_of atoms ≡ atoms_of typed_rules (term_of a) → n ≡ length atoms
       → gives_box R (DimValue n) (array (n ∷ []) (each cell_of atoms)) ≡ raveled R (array_of a)
-  ravel_gives a atoms all dims n ha e =
+  ravel_gives a atoms n ha e =
       ap (λ m. gives_box R (DimValue m) (array (m ∷ []) (each cell_of atoms))) (e ∙ sym (mapped_count cell_of atoms))
       ∙ ap (λ xs. gives_box R (DimValue (length xs)) (array (length xs ∷ []) xs)) ha
 

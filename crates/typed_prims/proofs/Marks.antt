@@ -13,7 +13,7 @@ use Rattle.core_syntax.specs.Rules.{atom_rules, look}
 use Rattle.core_syntax.specs.Syntax.{Ty}
 use Rattle.core_syntax.specs.Terms.{TInt, TBool, TChar, TPrim, TFn, TTypeFn, TIndexFn, TBoxed}
 use Rattle.core_syntax.specs.Typed.{typed_rules}
-use Rattle.naturality.proofs.Counts.{run_count}
+use Rattle.naturality.proofs.Counts.{mapped_count, run_count}
 use Rattle.prim_kernels.proofs.ArrayCuts.{joined_append}
 use Rattle.typed_prims.specs.Boxes.{mark, count_marks}
 
@@ -45,6 +45,16 @@ count_more xs k b n m e h s = s ∙ (λ i. h i + (if b then 1 else 0)) ∙ by b 
     by : (b : Bool) → count_marks (take k xs) + (if b then 1 else 0) ≡ (if b then suc (count_marks (take k xs)) else count_marks (take k xs))
     by true = omega arith
     by false = omega arith
+
+-- counted up to the last mark or the last place
+pub count_end : (g : TermAtom → TypedCell) (xs : List TermAtom) (n k e : ℕ) → e ≡ min (length xs) n → k ≤ e → e ≤ k → count_marks (take k (each g xs)) ≡ count_marks (take n (each g xs))
+count_end g xs n k e is le ge = by (cases_lt k (length xs))
+  where
+    by : (k < length xs) ⊎ (length xs ≤ k) → count_marks (take k (each g xs)) ≡ count_marks (take n (each g xs))
+    by (inl long) = ap (λ j. count_marks (take j (each g xs))) (let same : k ≡ n = omega (arith, is, le, ge, long) in same)
+    by (inr short) =
+        let c = mapped_count g xs in
+        ap count_marks (take_all k (each g xs) (omega (arith, short, c)) ∙ sym (take_all n (each g xs) (omega (arith, is, le, ge, short, c))))
 
 -- ---- cells
 

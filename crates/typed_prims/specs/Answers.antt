@@ -13,10 +13,10 @@ use Rattle.core_syntax.specs.Move.{Move}
 use Rattle.core_syntax.specs.Rules.{dims_of, atoms_of, atom_rules, answered, look, values_of}
 use Rattle.core_syntax.specs.Typed.{typed_rules, closed_value, TypedTerm}
 use Rattle.core_syntax.specs.RefineTerms.{term_of, TypedCell}
-use Rattle.typed_prims.specs.declared.delta.Look.{Look as Seen}
-use Rattle.typed_prims.specs.declared.delta.Look.TheVariants as seen
-use Rattle.typed_prims.specs.declared.delta.Given.{Given}
-use Rattle.typed_prims.specs.declared.delta.Given.TheVariants as given
+use Rattle.typed_prims.specs.declared.deltas.Look.{Look as Seen}
+use Rattle.typed_prims.specs.declared.deltas.Look.TheVariants as seen
+use Rattle.typed_prims.specs.declared.deltas.Given.{Given}
+use Rattle.typed_prims.specs.declared.deltas.Given.TheVariants as given
 
 -- the array of a value
 abbrev pub array_of : TermExpr → Arrayed TypedCell

@@ -14,7 +14,7 @@ ghost use Rattle.typed_prims.specs.Answers.{answer_on, array_of};
 ghost use Rattle.typed_prims.specs.ArrayAnswers.{answer_is, column_at, gives, place_below, places, IsOnArrays};
 
 use crate::answer::{Answer, at, behind, copied_atoms, formed, front, led, single};
-use crate::delta::{Look, seen};
+use crate::deltas::{Look, seen};
 use core_syntax::{Index, IndexForm, Memory, Primitive, TermAtom, TermExpr, TrapKind};
 use sqlite_items::Items;
 use std::alloc::Global;

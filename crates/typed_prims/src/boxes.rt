@@ -399,7 +399,7 @@ fn kept_count(marks: &[TermAtom], count: u32) -> u32
 {
     let mut kept: u32 = 0;
     for place in 0..marks.len().min(count as usize) {
-        kept += one_if(is_marked(&marks[place]));
+        kept += one_if(is_marked(marks, place));
     }
     kept
 }
@@ -411,8 +411,16 @@ fn one_if(b: bool) -> u32
     if b { 1 } else { 0 }
 }
 
-/// Whether a mark is true.
-fn is_marked(atom: &TermAtom) -> bool
+/// Whether the mark at a place is true.
+fn is_marked(marks: &[TermAtom], place: usize) -> bool
+    requires { place < length marks.now }
+    ensures { slice_get (each mark (each cell_of marks.now)) place ≡ Some result }
+{
+    is_true(&marks[place])
+}
+
+/// Whether an atom is true.
+fn is_true(atom: &TermAtom) -> bool
     ensures { result ≡ mark (cell_of atom.now) }
 {
     match atom {
@@ -441,7 +449,7 @@ fn kept_atoms(
     let room = room.checked_sub(1).ok_or(Memory)?;
     let mut all = Vec::new(alloc);
     for place in 0..marks.len().min(count as usize) {
-        push_if(&mut all, alloc, is_marked(&marks[place]), at(atoms, place, cell), room)?;
+        push_if(&mut all, alloc, is_marked(marks, place), at(atoms, place, cell), room)?;
     }
     Ok(all)
 }

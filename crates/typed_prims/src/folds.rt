@@ -1,5 +1,5 @@
 // `reduce` and `fold`: the nested applications that they go to (docs/LANGUAGE.md, "What primitives give").
-ghost use Rattle.std.specs.Prelude.{◌≡◌, ◌≤◌, ◌*◌, ◌++◌, [], ◌∷◌, IfOk, None, Some, drop, option_map, slice_index_or, take};
+ghost use Rattle.std.specs.Prelude.{◌≡◌, ◌≤◌, ◌*◌, ◌++◌, [], ◌∷◌, IfOk, OnOk, None, Some, drop, option_map, slice_index_or, take};
 ghost use Rattle.core_syntax.specs.declared.primitive.Primitive.TheVariants as p;
 ghost use Rattle.core_syntax.specs.Delta.{folds};
 ghost use Rattle.core_syntax.specs.Lists.{each, product};
@@ -10,7 +10,7 @@ ghost use Rattle.core_syntax.specs.RefineTerms.{cell_of, term_of, terms_of};
 ghost use Rattle.core_syntax.specs.Rules.{answered, array_term_of, atom_rules, fold_from, fold_term, goes_fold, reduce_term};
 ghost use Rattle.core_syntax.specs.Syntax.{Ty as SyntaxTy};
 ghost use Rattle.core_syntax.specs.Terms.{TApp, more_terms, no_terms, scalar_of};
-ghost use Rattle.core_syntax.specs.Typed.{atom_type as atoms_type, typed_rules};
+ghost use Rattle.core_syntax.specs.Typed.{atom_type as atoms_type, typed_rules, TypedTerm};
 ghost use Rattle.typed_prims.specs.Answers.{array_of, move_on};
 ghost use Rattle.typed_prims.specs.Folds.{cells_of, item_terms};
 ghost use Rattle.typed_prims.specs.Outcomes.{move_of};
@@ -74,8 +74,26 @@ fn reduce_over(
 ) -> Result<Outcome, Memory>
     ensures { (r : SyntaxTy) → IfOk result (λ o. move_of o ≡ answered typed_rules r (option_map (each ty_of) types.now) (option_map (each index_of) indices.now) (folds (atom_rules typed_rules r) (each cell_of function.now) None (array_of items.now))) }
 {
-    match (function, term_values::dims(items)) {
-        ([function], [count, dims @ ..]) => {
+    match function {
+        [function] => reduce_by(alloc, types, indices, function, items, room),
+        _ => Ok(Outcome::Lost),
+    }
+}
+
+/// `reduce` by an atom over items.
+fn reduce_by(
+    alloc: Global,
+    types: &Option<Items<Ty>>,
+    indices: &Option<Items<Index>>,
+    function: &TermAtom,
+    items: &TermExpr,
+    room: u32,
+) -> Result<Outcome, Memory>
+    ensures { (r : SyntaxTy) → IfOk result (λ o. move_of o ≡ answered typed_rules r (option_map (each ty_of) types.now) (option_map (each index_of) indices.now) (folds (atom_rules typed_rules r) (cell_of function.now ∷ []) None (array_of items.now))) }
+{
+    match term_values::dims(items) {
+        [] => Ok(Outcome::Lost),
+        [count, dims @ ..] => {
             if *count > MOST_ITEMS {
                 return Ok(Outcome::Trap(TrapKind::Size));
             }
@@ -86,7 +104,6 @@ fn reduce_over(
             };
             reduce_cells(alloc, types, indices, function, cells, room)
         }
-        _ => Ok(Outcome::Lost),
     }
 }
 
@@ -124,6 +141,9 @@ fn reduce_with(
     if cells.count == 0 {
         return Ok(Outcome::Lost);
     }
+    if cells.count > room {
+        return Err(Memory);
+    }
     let answer = result_type(alloc, types, 0, shape)?;
     let shapes = two_shapes(alloc, shape, shape)?;
     let fold = FoldStep {
@@ -133,7 +153,7 @@ fn reduce_with(
         item: &answer,
     };
     match item_at(alloc, fold.item, cells, 0, room) {
-        Ok(first) => nested(alloc, fold, first, cells, 1, room),
+        Ok(first) => goes(nested(alloc, fold, first, cells, 1, room)),
         Err(memory) => Err(memory),
     }
 }
@@ -170,8 +190,27 @@ fn fold_over(
 ) -> Result<Outcome, Memory>
     ensures { (r : SyntaxTy) → IfOk result (λ o. move_of o ≡ answered typed_rules r (option_map (each ty_of) types.now) (option_map (each index_of) indices.now) (folds (atom_rules typed_rules r) (each cell_of function.now) (Some (array_of first.now)) (array_of items.now))) }
 {
-    match (function, term_values::dims(items)) {
-        ([function], [count, dims @ ..]) => {
+    match function {
+        [function] => fold_by(alloc, types, indices, function, first, items, room),
+        _ => Ok(Outcome::Lost),
+    }
+}
+
+/// `fold` by an atom over items.
+fn fold_by(
+    alloc: Global,
+    types: &Option<Items<Ty>>,
+    indices: &Option<Items<Index>>,
+    function: &TermAtom,
+    first: &TermExpr,
+    items: &TermExpr,
+    room: u32,
+) -> Result<Outcome, Memory>
+    ensures { (r : SyntaxTy) → IfOk result (λ o. move_of o ≡ answered typed_rules r (option_map (each ty_of) types.now) (option_map (each index_of) indices.now) (folds (atom_rules typed_rules r) (cell_of function.now ∷ []) (Some (array_of first.now)) (array_of items.now))) }
+{
+    match term_values::dims(items) {
+        [] => Ok(Outcome::Lost),
+        [count, dims @ ..] => {
             if *count > MOST_ITEMS {
                 return Ok(Outcome::Trap(TrapKind::Size));
             }
@@ -182,7 +221,6 @@ fn fold_over(
             };
             fold_cells(alloc, types, indices, function, first, cells, room)
         }
-        _ => Ok(Outcome::Lost),
     }
 }
 
@@ -223,6 +261,9 @@ fn fold_with(
 ) -> Result<Outcome, Memory>
     ensures { IfOk result (λ o. move_of o ≡ fold_from typed_rules (cell_of function.now) (each ty_of types.now) (index_of shape.now) (index_of accumulated.now) (array_of first.now) (cells_of cells.entry.count cells.entry.dims.now (each cell_of cells.entry.atoms.now))) }
 {
+    if cells.count > room {
+        return Err(Memory);
+    }
     let answer = result_type(alloc, types, 1, accumulated)?;
     let item = result_type(alloc, types, 0, shape)?;
     let shapes = two_shapes(alloc, accumulated, shape)?;
@@ -234,7 +275,17 @@ fn fold_with(
     };
     let (dims, atoms) = (term_values::dims(first), term_values::atoms(first));
     match value(alloc, dims, atoms, fold.answer, room) {
-        Ok(first) => nested(alloc, fold, first, cells, 0, room),
+        Ok(first) => goes(nested(alloc, fold, first, cells, 0, room)),
+        Err(memory) => Err(memory),
+    }
+}
+
+/// The step to a term.
+fn goes(term: Result<TermExpr, Memory>) -> Result<Outcome, Memory>
+    ensures { (t : TypedTerm) → IfOk term (λ u. term_of u ≡ t) → IfOk result (λ o. move_of o ≡ Goes t) }
+{
+    match term {
+        Ok(term) => Ok(Outcome::Goes(term)),
         Err(memory) => Err(memory),
     }
 }
@@ -307,7 +358,7 @@ fn item_at(
     value(alloc, cells.dims, atoms, item, room)
 }
 
-/// The applications to the items from a place on, one around the other, where they are no more than `room`.
+/// The applications to the items from a place on, one around the other.
 fn nested(
     alloc: Global,
     fold: FoldStep<'_>,
@@ -315,18 +366,15 @@ fn nested(
     cells: Cells<'_>,
     from: u32,
     room: u32,
-) -> Result<Outcome, Memory>
-    requires { from ≤ cells.entry.count }
-    ensures { IfOk result (λ o. move_of o ≡ Goes (fold_term typed_rules (cell_of fold.entry.function.now) (each index_of fold.entry.shapes.now) (ty_of fold.entry.answer.now) (term_of first) (drop from (item_terms (atoms_type (ty_of fold.entry.item.now)) cells.entry.count cells.entry.dims.now (each cell_of cells.entry.atoms.now))))) }
+) -> Result<TermExpr, Memory>
+    requires { from ≤ cells.count }
+    ensures { IfOk result (λ t. term_of t ≡ fold_term typed_rules (cell_of fold.entry.function.now) (each index_of fold.entry.shapes.now) (ty_of fold.entry.answer.now) (term_of first) (drop from (item_terms (atoms_type (ty_of fold.entry.item.now)) cells.entry.count cells.entry.dims.now (each cell_of cells.entry.atoms.now)))) }
 {
     let mut acc = first;
     for place in from..cells.count {
-        if place >= room {
-            return Err(Memory);
-        }
         acc = applied(alloc, fold, acc, cells, place, room)?;
     }
-    Ok(Outcome::Goes(acc))
+    Ok(acc)
 }
 
 /// The application to an accumulator and the item at a place.
@@ -340,51 +388,59 @@ fn applied(
 ) -> Result<TermExpr, Memory>
     ensures { IfOk result (λ t. term_of t ≡ TApp (scalar_of (cell_of fold.entry.function.now)) (more_terms (term_of acc) (more_terms (array_term_of typed_rules (atoms_type (ty_of fold.entry.item.now)) cells.entry.dims.now (take (product cells.entry.dims.now) (drop (place * product cells.entry.dims.now) (each cell_of cells.entry.atoms.now)))) no_terms)) (each index_of fold.entry.shapes.now) (ty_of fold.entry.answer.now)) }
 {
-    match item_at(alloc, fold.item, cells, place, room) {
-        Ok(item) => applied_to(alloc, fold, acc, item, room),
+    match sole(alloc, acc) {
+        Ok(args) => applied_to(alloc, fold, args, cells, place, room),
         Err(memory) => Err(memory),
     }
 }
 
-/// The application to two arguments.
+/// One term.
+fn sole(alloc: Global, term: TermExpr) -> Result<Vec<TermExpr>, Memory>
+    ensures { IfOk result (λ ts. ts.items ≡ term ∷ []) }
+{
+    let mut terms = Vec::new(alloc);
+    match terms.push(term) {
+        Ok(()) => Ok(terms),
+        Err(_) => Err(Memory),
+    }
+}
+
+/// The application to arguments and the item at a place.
 fn applied_to(
     alloc: Global,
     fold: FoldStep<'_>,
-    acc: TermExpr,
-    item: TermExpr,
+    args: Vec<TermExpr>,
+    cells: Cells<'_>,
+    place: u32,
     room: u32,
 ) -> Result<TermExpr, Memory>
-    ensures { IfOk result (λ t. term_of t ≡ TApp (scalar_of (cell_of fold.entry.function.now)) (more_terms (term_of acc) (more_terms (term_of item) no_terms)) (each index_of fold.entry.shapes.now) (ty_of fold.entry.answer.now)) }
+    ensures { (acc : TermExpr) → args.items ≡ acc ∷ [] → IfOk result (λ t. term_of t ≡ TApp (scalar_of (cell_of fold.entry.function.now)) (more_terms (term_of acc) (more_terms (array_term_of typed_rules (atoms_type (ty_of fold.entry.item.now)) cells.entry.dims.now (take (product cells.entry.dims.now) (drop (place * product cells.entry.dims.now) (each cell_of cells.entry.atoms.now)))) no_terms)) (each index_of fold.entry.shapes.now) (ty_of fold.entry.answer.now)) }
 {
-    match pair(alloc, acc, item) {
-        Ok(args) => applied_to_pair(alloc, fold, args, room),
+    let mut args = args;
+    match push_item(&mut args, alloc, fold.item, cells, place, room) {
+        Ok(()) => application_to(alloc, fold, args, room),
         Err(memory) => Err(memory),
     }
 }
 
-/// Two terms.
-fn pair(alloc: Global, first: TermExpr, second: TermExpr) -> Result<Vec<TermExpr>, Memory>
-    ensures { IfOk result (λ ts. ts.items ≡ first ∷ second ∷ []) }
+/// Pushes the item at a place.
+fn push_item(
+    args: &mut Vec<TermExpr>,
+    alloc: Global,
+    item: &Ty,
+    cells: Cells<'_>,
+    place: u32,
+    room: u32,
+) -> Result<(), Memory>
+    ensures { OnOk result ((t : TermExpr) × (args.new.items ≡ args.old.items ++ t ∷ []) × (term_of t ≡ array_term_of typed_rules (atoms_type (ty_of item.now)) cells.entry.dims.now (take (product cells.entry.dims.now) (drop (place * product cells.entry.dims.now) (each cell_of cells.entry.atoms.now))))) }
 {
-    let mut pair = Vec::new(alloc);
-    match pair.push(first) {
-        Ok(()) => with_second(pair, second),
-        Err(_) => Err(Memory),
-    }
-}
-
-/// Terms and one more.
-fn with_second(mut pair: Vec<TermExpr>, second: TermExpr) -> Result<Vec<TermExpr>, Memory>
-    ensures { IfOk result (λ ts. ts.items ≡ pair.items ++ second ∷ []) }
-{
-    match pair.push(second) {
-        Ok(()) => Ok(pair),
-        Err(_) => Err(Memory),
-    }
+    let item = item_at(alloc, item, cells, place, room)?;
+    args.push(item)?;
+    Ok(())
 }
 
 /// The application to arguments.
-fn applied_to_pair(
+fn application_to(
     alloc: Global,
     fold: FoldStep<'_>,
     args: Vec<TermExpr>,

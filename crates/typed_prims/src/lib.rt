@@ -4,9 +4,9 @@
 mod answer;
 mod arrays;
 mod boxes;
-mod delta;
+mod deltas;
 mod folds;
 mod outcome;
 
-pub use delta::delta;
+pub use deltas::delta;
 pub use outcome::Outcome;

@@ -4,7 +4,7 @@ use Rattle.core_syntax.specs.Delta.{quotient, remainder}
 use Rattle.core_syntax.specs.Rules.{atom_rules}
 use Rattle.core_syntax.specs.Typed.{typed_rules}
 use Rattle.typed_prims.proofs.ScalarAnswers.{of_div, of_mod}
-use Rattle.typed_prims.proofs.delta.on_ints.Goals as goal
+use Rattle.typed_prims.proofs.deltas.on_ints.Goals as goal
 
 pub returns-in-Div : goal.returns-in-Div
 returns-in-Div c = λ r.

@@ -4,7 +4,7 @@ use Rattle.core_syntax.specs.Refine.{index_of, ty_of}
 use Rattle.core_syntax.specs.Rules.{answered, values_of}
 use Rattle.core_syntax.specs.Typed.{closed_value, typed_rules}
 use Rattle.typed_prims.specs.Outcomes.{move_of}
-use Rattle.typed_prims.proofs.delta.answer_of.Goals as goal
+use Rattle.typed_prims.proofs.deltas.answer_of.Goals as goal
 
 pub returns-in_default : goal.returns-in_default
 returns-in_default c =

@@ -2,7 +2,7 @@ use Rattle.std.proofs.Common.{◌∙◌, sym, rules, FitsSigned, w64, [], ◌∷
 use Rattle.std.proofs.lemmas.Int.{to_z-of_z}
 use Rattle.core_syntax.specs.Answer.{AnInt}
 use Rattle.typed_prims.specs.Answers.{answer_on_looks, look_of}
-use Rattle.typed_prims.proofs.delta.on_two.Goals as goal
+use Rattle.typed_prims.proofs.deltas.on_two.Goals as goal
 
 pub returns-in-Int-Int : goal.returns-in-Int-Int
 returns-in-Int-Int c = λ r.

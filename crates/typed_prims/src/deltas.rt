@@ -16,7 +16,7 @@ ghost use Rattle.typed_prims.specs.Answers.{answer_given, answer_on, answer_on_l
 ghost use Rattle.typed_prims.specs.ArrayAnswers.{IsOnArrays};
 ghost use Rattle.typed_prims.specs.Boxes.{GivesBox};
 ghost use Rattle.typed_prims.specs.Outcomes.{move_of};
-ghost use Rattle.typed_prims.specs.declared.delta.Given.TheVariants as gives;
+ghost use Rattle.typed_prims.specs.declared.deltas.Given.TheVariants as gives;
 
 use crate::answer::answer_term;
 use crate::outcome::Outcome;

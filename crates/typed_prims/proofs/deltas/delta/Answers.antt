@@ -4,7 +4,7 @@ use Rattle.core_syntax.specs.Refine.{index_of, ty_of}
 use Rattle.core_syntax.specs.Rules.{agrees, has_types, has_indices}
 use Rattle.typed_prims.specs.Outcomes.{move_of}
 use Rattle.typed_prims.proofs.ScalarAnswers.{complete_moves, some_map}
-use Rattle.typed_prims.proofs.delta.delta.Goals as goal
+use Rattle.typed_prims.proofs.deltas.delta.Goals as goal
 
 pub returns-then-is_complete : goal.returns-then-is_complete
 returns-then-is_complete c =

@@ -1,5 +1,5 @@
 use Rattle.typed_prims.proofs.ScalarAnswers.{on_one_is, on_two_is, on_others_is}
-use Rattle.typed_prims.proofs.delta.on_scalars.Goals as goal
+use Rattle.typed_prims.proofs.deltas.on_scalars.Goals as goal
 
 pub returns-in-len1 : goal.returns-in-len1
 returns-in-len1 c = λ r is. on_one_is r is c.args.primitive c.requires c.args.args.now c.x-item.result _ _ c.in-len1.len_at_least c.in-len1.len_below c.x-item.is c.seen.ensures (c.on_one.ensures r)

@@ -4,7 +4,7 @@ use Rattle.core_syntax.specs.Refine.{index_of, ty_of}
 use Rattle.core_syntax.specs.Rules.{answered}
 use Rattle.core_syntax.specs.Typed.{typed_rules}
 use Rattle.typed_prims.specs.Outcomes.{move_of}
-use Rattle.typed_prims.proofs.delta.on_arrays.Goals as goal
+use Rattle.typed_prims.proofs.deltas.on_arrays.Goals as goal
 
 pub returns-in-Ok : goal.returns-in-Ok
 returns-in-Ok c = λ us.
