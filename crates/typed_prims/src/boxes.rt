@@ -301,8 +301,13 @@ fn reshape_with(
     match asked_dims(alloc, term_values::atoms(q))? {
         None => Ok(Answer::Trap(TrapKind::Size)),
         Some(dims) => {
-            let count = term_values::count(dims.as_slice()) as u32;
-            let atoms = cycled(alloc, atoms, fill, count, room)?;
+            let atoms = cycled(
+                alloc,
+                atoms,
+                fill,
+                term_values::count(dims.as_slice()) as u32,
+                room,
+            )?;
             boxed_by_dims(alloc, dims, atoms, cell)
         }
     }

@@ -344,8 +344,8 @@ fn select(alloc: Global, args: &[TermExpr], answer: &Ty, room: u32) -> Result<Ou
 fn copied(alloc: Global, value: &TermExpr, cell: &Ty, room: u32) -> Result<Outcome, Memory>
     ensures { IfOk result (λ o. move_of o ≡ Goes (array_term typed_rules (atom_type (ty_of cell.now)) (array_of value.now))) }
 {
-    let (dims, atoms) = (term_values::dims(value), term_values::atoms(value));
-    match folds::value(alloc, dims, atoms, cell, room) {
+    let dims = term_values::dims(value);
+    match folds::value(alloc, dims, term_values::atoms(value), cell, room) {
         Ok(array) => Ok(Outcome::Goes(array)),
         Err(memory) => Err(memory),
     }

@@ -273,8 +273,8 @@ fn fold_with(
         answer: &answer,
         item: &item,
     };
-    let (dims, atoms) = (term_values::dims(first), term_values::atoms(first));
-    match value(alloc, dims, atoms, fold.answer, room) {
+    let dims = term_values::dims(first);
+    match value(alloc, dims, term_values::atoms(first), fold.answer, room) {
         Ok(first) => goes(nested(alloc, fold, first, cells, 0, room)),
         Err(memory) => Err(memory),
     }

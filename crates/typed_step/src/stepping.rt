@@ -16,8 +16,8 @@ use term_values::DEEPEST;
 ///
 /// # Errors
 ///
-/// Where there is no memory; where a term or a type would nest too deep (docs/LANGUAGE.md, "Limits"); and at `reduce`, `fold`,
-/// `iota`, `reshape`, `ravel` and `filter`, which aren't done yet. The term is then given up.
+/// Where there is no memory, and where a term or a type would nest too deep (docs/LANGUAGE.md, "Limits"). The term is then given
+/// up.
 pub fn step(alloc: Global, closed: Closed) -> Result<Next, Memory>
     ensures { IfOk result (λ next. Stepped (each term_of closed.defs) (term_of closed.term) next) }
 {
