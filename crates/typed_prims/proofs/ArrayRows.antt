@@ -18,7 +18,7 @@ use Rattle.core_syntax.specs.Typed.{closed_value, typed_rules}
 use Rattle.core_syntax.specs.RefineTerms.{cell_of, term_of, TypedCell}
 use Rattle.core_syntax.specs.Refine.{index_of}
 use Rattle.typed_prims.specs.Answers.{array_of, seen_of}
-use Rattle.typed_prims.specs.ArrayAnswers.{formed_dims, place_below}
+use Rattle.prim_kernels.specs.Kernels.{formed_dims, place_below}
 use Rattle.naturality.proofs.Eaches.{each_take, each_drop, each_joined, each_runs, each_columns}
 
 -- the number at a place of index arguments

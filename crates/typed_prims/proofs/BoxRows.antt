@@ -14,14 +14,16 @@ use Rattle.core_syntax.specs.Rules.{array_term_of, atom_rules, atoms_of, dims_of
 use Rattle.core_syntax.specs.Syntax.{Ty, Index}
 use Rattle.core_syntax.specs.Terms.{IndexValue, DimValue, ShapeValue, TBool, TBoxed, TChar, TFn, TIndexFn, TInt, TPrim, TTypeFn}
 use Rattle.core_syntax.specs.Typed.{atom_type, content_type, typed_rules, value_index, TypedTerm}
-use Rattle.naturality.proofs.Eaches.{each_append, each_joined, each_length, each_picked, each_runs, each_take}
+use Rattle.naturality.proofs.Eaches.{each_joined, each_length, each_picked, each_runs, each_take}
 use Rattle.naturality.proofs.Counts.{form_of, mapped_count, run_count}
 use Rattle.prim_kernels.proofs.ArrayRows.{behind, split_first}
 use Rattle.prim_kernels.proofs.Asked.{each_more, formed_some}
+use Rattle.prim_kernels.specs.Kernels.{formed_dims}
 use Rattle.typed_prims.specs.Answers.{array_of}
-use Rattle.typed_prims.specs.ArrayAnswers.{formed_dims, places}
+use Rattle.typed_prims.specs.ArrayAnswers.{places}
 use Rattle.typed_prims.specs.Boxes.{count_marks, cycled, wanted}
 use Rattle.typed_prims.proofs.Marks.{masked_count, masked_each}
+use Rattle.typed_prims.proofs.Numbers.{counting_more, each_push}
 
 -- ---- a box of an array under an index
 
@@ -49,16 +51,12 @@ no_rank xs h = by (forms (each wanted (each cell_of xs))) refl
     by false e = refl
 
 -- one atom more again
-counting_push : (k n : ℕ) → counting k (suc n) ≡ counting k n ++ (k + n) ∷ []
-counting_push k zero = ap (λ m. m ∷ []) (let e : k ≡ k + 0 = omega arith in e)
-counting_push k (suc n) = ap (λ ms. k ∷ ms) (counting_push (suc k) n ∙ ap (λ m. counting (suc k) n ++ m ∷ []) (let e : suc k + n ≡ k + suc n = omega arith in e))
-
 pub cycled_more : {A : Type 0} (xs : List A) (fill : A) (n : ℕ) → cycled xs fill n ++ slice_index_or xs (n % length xs) fill ∷ [] ≡ cycled xs fill (n + 1)
 cycled_more xs fill n =
     sym
     (ap (cycled xs fill) (let e : n + 1 ≡ suc n = omega arith in e)
-    ∙ ap (each (λ j. slice_index_or xs (j % length xs) fill)) (counting_push 0 n)
-    ∙ sym (each_append (λ j. slice_index_or xs (j % length xs) fill) (counting 0 n) ((0 + n) ∷ []))
+    ∙ ap (each (λ j. slice_index_or xs (j % length xs) fill)) (counting_more 0 n)
+    ∙ each_push (λ j. slice_index_or xs (j % length xs) fill) (counting 0 n) (0 + n)
     ∙ ap (λ k. cycled xs fill n ++ slice_index_or xs (k % length xs) fill ∷ []) (let e : 0 + n ≡ n = omega arith in e))
 
 module _ (r : Ty) where

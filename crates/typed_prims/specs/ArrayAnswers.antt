@@ -1,11 +1,10 @@
 -- What primitives give on arrays.
-use Rattle.std.specs.Prelude.{ℕ, zero, suc, ℤ, pos, negsuc, nat_lt, if◌then◌else◌, true, false, ⊤, List, Option, Some, None}
+use Rattle.std.specs.Prelude.{ℕ, pos, ⊤, List}
 use Rattle.core_syntax.specs.declared.primitive.Primitive.{Primitive}
 use Rattle.core_syntax.specs.declared.primitive.Primitive.TheVariants as p
-use Rattle.core_syntax.specs.Fits.{forms}
 use Rattle.core_syntax.specs.Lists.{each}
 use Rattle.core_syntax.specs.Terms.{TInt}
-use Rattle.core_syntax.specs.Arrays.{array, single, firsts, rests}
+use Rattle.core_syntax.specs.Arrays.{array, single}
 use Rattle.core_syntax.specs.Answer.{Answer, Gives, Traps, Unfit}
 use Rattle.core_syntax.specs.Delta.{counting}
 use Rattle.core_syntax.specs.RefineTerms.{cell_of, TypedCell}
@@ -26,23 +25,9 @@ gives dims xs = Gives (array dims xs)
 abbrev pub gives_single : TypedCell → Answer TypedCell
 gives_single a = Gives (single a)
 
--- dims that an array may have
-abbrev pub formed_dims : List ℕ → Option (List ℕ)
-formed_dims dims = elim (forms dims) [ true ↦ Some dims | false ↦ None ]
-
 -- the numbers below one
 abbrev pub places : ℕ → List TypedCell
 places n = each (λ k. TInt (pos k)) (counting 0 n)
-
--- a place that is below a number, none where it is not
-abbrev pub place_below : ℤ → ℕ → Option ℕ
-place_below (pos k) n = if nat_lt k n then Some k else None
-place_below (negsuc k) n = None
-
--- the column of rows at a place
-abbrev pub column_at : {A : Type 0} → ℕ → List (List A) → List A
-column_at zero xss = firsts xss
-column_at (suc c) xss = column_at c (rests xss)
 
 -- a primitive that cuts, joins or reorders arrays
 abbrev pub IsOnArrays : Primitive → Type 0

@@ -7,7 +7,8 @@ ghost use Rattle.core_syntax.specs.RefineTerms.{cell_of};
 ghost use Rattle.core_syntax.specs.Rules.{answered};
 ghost use Rattle.core_syntax.specs.Syntax.{Ty as SyntaxTy, Index as SyntaxIndex};
 ghost use Rattle.core_syntax.specs.Typed.{typed_rules};
-ghost use Rattle.typed_prims.specs.ArrayAnswers.{answer_is, formed_dims, gives_single};
+ghost use Rattle.prim_kernels.specs.Kernels.{formed_dims};
+ghost use Rattle.typed_prims.specs.ArrayAnswers.{answer_is, gives_single};
 ghost use Rattle.typed_prims.specs.Outcomes.{move_of};
 
 use crate::outcome::Outcome;

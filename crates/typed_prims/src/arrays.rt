@@ -10,8 +10,9 @@ ghost use Rattle.core_syntax.specs.Rules.{atom_rules, values_of};
 ghost use Rattle.core_syntax.specs.Syntax.{Ty as SyntaxTy};
 ghost use Rattle.core_syntax.specs.Terms.{IndexValue};
 ghost use Rattle.core_syntax.specs.Typed.{typed_rules, closed_value};
+ghost use Rattle.prim_kernels.specs.Kernels.{column_at, place_below};
 ghost use Rattle.typed_prims.specs.Answers.{answer_on, array_of};
-ghost use Rattle.typed_prims.specs.ArrayAnswers.{answer_is, column_at, gives, place_below, places, IsOnArrays};
+ghost use Rattle.typed_prims.specs.ArrayAnswers.{answer_is, gives, places, IsOnArrays};
 
 use crate::answer::{Answer, at, behind, copied_atoms, formed, front, led, single};
 use crate::deltas::{Look, seen};

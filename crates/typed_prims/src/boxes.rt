@@ -9,8 +9,9 @@ ghost use Rattle.core_syntax.specs.Rules.{array_term_of, atom_rules};
 ghost use Rattle.core_syntax.specs.Syntax.{Ty as SyntaxTy};
 ghost use Rattle.core_syntax.specs.Terms.{IndexValue, DimValue, ShapeValue, TBoxed, TNoAtoms};
 ghost use Rattle.core_syntax.specs.Typed.{atom_type as atoms_type, content_type, typed_rules, value_index};
+ghost use Rattle.prim_kernels.specs.Kernels.{formed_dims};
 ghost use Rattle.typed_prims.specs.Answers.{answer_on, array_of};
-ghost use Rattle.typed_prims.specs.ArrayAnswers.{answer_is, formed_dims, gives_single};
+ghost use Rattle.typed_prims.specs.ArrayAnswers.{answer_is, gives_single};
 ghost use Rattle.typed_prims.specs.Boxes.{count_marks, cycled as cycled_items, mark, wanted, GivesBox};
 
 use crate::answer::{Answer, at, copied_atoms, led, single};

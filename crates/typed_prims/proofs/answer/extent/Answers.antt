@@ -1,6 +1,6 @@
 use Rattle.std.proofs.Common.{◌∙◌, ◌≤◌, ◌*◌, ap, min, arith}
 use Rattle.core_syntax.specs.Lists.{product}
-use Rattle.typed_prims.proofs.ArrayCuts.{extent_is}
+use Rattle.prim_kernels.proofs.ArrayCuts.{extent_is}
 use Rattle.typed_prims.proofs.answer.extent.Goals as goal
 
 pub returns : goal.returns

@@ -1,4 +1,4 @@
-use Rattle.typed_prims.proofs.ArrayCuts.{numbers_more}
+use Rattle.typed_prims.proofs.Numbers.{numbers_more}
 use Rattle.typed_prims.proofs.arrays.numbers.Goals as goal
 
 pub loop-place-preserved : goal.loop-place-preserved

@@ -1,6 +1,6 @@
 use Rattle.std.proofs.Common.{◌∙◌, ap, ◌++◌}
 use Rattle.core_syntax.specs.Lists.{product}
-use Rattle.typed_prims.proofs.ArrayCuts.{no_column, column_more}
+use Rattle.prim_kernels.proofs.ArrayCuts.{no_column, column_more}
 use Rattle.typed_prims.proofs.arrays.push_column.Goals as goal
 
 pub loop-row-init : goal.loop-row-init

@@ -1,7 +1,7 @@
 use Rattle.std.proofs.Common.{◌≡◌, ◌*◌, ◌++◌}
 use Rattle.core_syntax.specs.Arrays.{runs}
 use Rattle.core_syntax.specs.Lists.{each, joined, product}
-use Rattle.typed_prims.specs.ArrayAnswers.{column_at}
+use Rattle.prim_kernels.specs.Kernels.{column_at}
 use Rattle.typed_prims.proofs.arrays.push_column.Given as goal
 
 abbrev pub invariant-loop-row : goal.invariant-loop-row

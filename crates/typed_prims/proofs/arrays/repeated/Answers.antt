@@ -1,6 +1,6 @@
 use Rattle.std.proofs.Common.{◌≡◌, ◌∙◌, sym, length, arith}
 use Rattle.std.proofs.lemmas.List.{nil_from_length}
-use Rattle.typed_prims.proofs.ArrayCuts.{nothing_repeated, repeated_more}
+use Rattle.prim_kernels.proofs.ArrayCuts.{nothing_repeated, repeated_more}
 use Rattle.typed_prims.proofs.arrays.repeated.Goals as goal
 
 pub returns-then-is_empty : goal.returns-then-is_empty

@@ -2,7 +2,7 @@ use Rattle.std.proofs.Common.{◌≡◌, ◌∙◌, sym, ap, suc, ◌+◌, ◌-�
 use Rattle.std.proofs.lemmas.List.{nil_from_length}
 use Rattle.core_syntax.specs.Arrays.{runs}
 use Rattle.core_syntax.specs.Lists.{joined, onto, product}
-use Rattle.typed_prims.proofs.ArrayCuts.{nothing_reversed, reversed_more}
+use Rattle.prim_kernels.proofs.ArrayCuts.{nothing_reversed, reversed_more}
 use Rattle.typed_prims.proofs.arrays.reversed.Goals as goal
 
 pub returns-then-is_empty : goal.returns-then-is_empty

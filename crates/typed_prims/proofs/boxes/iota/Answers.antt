@@ -4,7 +4,8 @@ use Rattle.core_syntax.specs.Refine.{ty_of}
 use Rattle.core_syntax.specs.RefineTerms.{cell_of, term_of}
 use Rattle.core_syntax.specs.Rules.{atoms_of}
 use Rattle.core_syntax.specs.Typed.{typed_rules}
-use Rattle.typed_prims.specs.ArrayAnswers.{answer_is, formed_dims}
+use Rattle.prim_kernels.specs.Kernels.{formed_dims}
+use Rattle.typed_prims.specs.ArrayAnswers.{answer_is}
 use Rattle.typed_prims.specs.Boxes.{wanted}
 use Rattle.typed_prims.proofs.BoxRows.{formed_count, iota_gives, iota_traps}
 use Rattle.typed_prims.proofs.boxes.iota.Goals as goal
