@@ -85,7 +85,7 @@ module _ (r : Ty) where
   when_unformed : (ds : List ℕ) (a b : Answer TypedCell) → formed_dims ds ≡ None → elim (forms ds) as (λ x. Answer TypedCell) [ true ↦ a | false ↦ b ] ≡ b
   when_unformed ds a b h = by (forms ds) h
     where
-      by : (t : _) → ◌≡◌ {A = Option (List ℕ)} (elim t [ true ↦ Some ds | false ↦ None ]) None → elim t as (λ x. Answer TypedCell) [ true ↦ a | false ↦ b ] ≡ b
+      by : (t : Bool) → ◌≡◌ {A = Option (List ℕ)} (elim t [ true ↦ Some ds | false ↦ None ]) None → elim t as (λ x. Answer TypedCell) [ true ↦ a | false ↦ b ] ≡ b
       by true e = absurd (let g = e in cc)
       by false e = refl
 

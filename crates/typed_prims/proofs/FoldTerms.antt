@@ -1,23 +1,14 @@
 -- The nested applications of folds.
-use Rattle.std.proofs.Common.{◌≡◌, refl, sym, ◌∙◌, ap, ℕ, zero, suc, ◌+◌, ◌*◌, ◌^◌, ◌≤◌, ◌<◌, arith, length, get_or, take, drop, List, [], ◌∷◌, Option, Some, None, Bool, true, false}
-use Rattle.std.specs.Prelude.{nat_le}
-use Rattle.std.proofs.lemmas.Bool.{le-leb, lt-leb}
+use Rattle.std.proofs.Common.{◌≡◌, refl, sym, ◌∙◌, ap, ℕ, zero, suc, ◌+◌, ◌*◌, ◌≤◌, ◌<◌, arith, take, drop, List, [], ◌∷◌}
 use Rattle.std.proofs.lemmas.List.{drop-drop}
-use Rattle.core_syntax.specs.declared.errors.TrapKind.TheVariants as trap
-use Rattle.core_syntax.specs.declared.term.TermAtom.{TermAtom}
-use Rattle.core_syntax.specs.declared.term.TermExpr.{TermExpr}
-use Rattle.core_syntax.specs.Answer.{Answer, Folds, Traps}
-use Rattle.core_syntax.specs.Arrays.{Arrayed, array}
-use Rattle.core_syntax.specs.Delta.{folds}
-use Rattle.core_syntax.specs.Lists.{each, product}
-use Rattle.core_syntax.specs.Move.{Goes, Trapped}
-use Rattle.core_syntax.specs.RefineTerms.{cell_of, term_of, TypedCell}
-use Rattle.core_syntax.specs.Rules.{answered, array_term_of, atom_rules, atoms_of, dims_of, fold_from, fold_term, goes_fold, reduce_term}
+use Rattle.core_syntax.specs.Arrays.{Arrayed}
+use Rattle.core_syntax.specs.Lists.{product}
+use Rattle.core_syntax.specs.Move.{Goes}
+use Rattle.core_syntax.specs.RefineTerms.{TypedCell}
+use Rattle.core_syntax.specs.Rules.{array_term_of, fold_from, fold_term, reduce_term}
 use Rattle.core_syntax.specs.Syntax.{Ty, Index}
 use Rattle.core_syntax.specs.Terms.{TApp, more_terms, no_terms, scalar_of}
 use Rattle.core_syntax.specs.Typed.{atom_type, typed_rules, TypedTerm}
-use Rattle.prim_kernels.proofs.ArrayRows.{behind, split_first}
-use Rattle.typed_prims.specs.Answers.{array_of}
 use Rattle.typed_prims.specs.Folds.{cells_of, item_terms}
 
 -- the item at a place, before those behind it
@@ -73,22 +64,3 @@ pub fold_gives : (f : TypedCell) (us : List Ty) (s z : Index) (count : ℕ) (dim
 fold_gives f us s z count dims xs first a b cs t ea eb ec et =
     (λ i. Goes (fold_term typed_rules f (ec i) a (et i) (item_terms (atom_type (eb i)) count dims xs)))
     ∙ ap (λ c. Goes (fold_term typed_rules f (z ∷ s ∷ []) c (array_term_of typed_rules (atom_type c) first.dims first.atoms) (item_terms (atom_type (typed_rules.typed_result us 0 s)) count dims xs))) ea
-
--- ---- what a fold is over
-
-module _ (r : Ty) (us : Option (List Ty)) (is : Option (List Index)) (f : TypedCell) (first : Option (Arrayed TypedCell)) (items : TermExpr) (ds : List ℕ) (atoms : List TermAtom) (hd : ds ≡ dims_of typed_rules (term_of items))
-    (ha : each cell_of atoms ≡ atoms_of typed_rules (term_of items)) (least : 1 ≤ length ds) where
-  -- by the count of its items
-  by_count : Bool → Answer TypedCell
-  by_count b = elim b [ true ↦ Folds f first (cells_of (get_or ds 0 0) (behind ds) (each cell_of atoms)) | false ↦ Traps trap.Size ]
-
-  by_dims : answered typed_rules r us is (by_count (nat_le (get_or ds 0 0) (2 ^ 24))) ≡ answered typed_rules r us is (folds (atom_rules typed_rules r) (f ∷ []) first (array_of items))
-  by_dims =
-      ap (λ s. answered typed_rules r us is (folds (atom_rules typed_rules r) (f ∷ []) first (array s (each cell_of atoms)))) (split_first ds least)
-      ∙ (λ i. answered typed_rules r us is (folds (atom_rules typed_rules r) (f ∷ []) first (array (hd i) (ha i))))
-
-  pub folds_gives : get_or ds 0 0 ≤ 2 ^ 24 → goes_fold typed_rules us is f first (cells_of (get_or ds 0 0) (behind ds) (each cell_of atoms)) ≡ answered typed_rules r us is (folds (atom_rules typed_rules r) (f ∷ []) first (array_of items))
-  folds_gives few = sym (ap (λ b. answered typed_rules r us is (by_count b)) (le-leb (get_or ds 0 0) (2 ^ 24) few)) ∙ by_dims
-
-  pub folds_traps : 2 ^ 24 < get_or ds 0 0 → Trapped trap.Size ≡ answered typed_rules r us is (folds (atom_rules typed_rules r) (f ∷ []) first (array_of items))
-  folds_traps many = sym (ap (λ b. answered typed_rules r us is (by_count b)) (lt-leb (get_or ds 0 0) (2 ^ 24) many)) ∙ by_dims

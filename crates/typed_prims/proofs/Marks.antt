@@ -6,7 +6,6 @@ use Rattle.std.proofs.lemmas.List.{append-nil, take_all, drop-drop}
 use Rattle.core_syntax.specs.declared.term.TermAtom.{TermAtom}
 use Rattle.core_syntax.specs.Lists.{each, joined}
 use Rattle.core_syntax.specs.Arrays.{runs}
-use Rattle.core_syntax.specs.Answer.{AtomRules}
 use Rattle.core_syntax.specs.Delta.{masked, keep_if}
 use Rattle.core_syntax.specs.RefineTerms.{cell_of, TypedCell}
 use Rattle.core_syntax.specs.Rules.{atom_rules, look}
@@ -59,16 +58,12 @@ count_end g xs n k e is le ge = by (cases_lt k (length xs))
 -- ---- cells
 
 module _ (r : Ty) {B : Type 0} where
-  -- how primitives see and make atoms here
-  abbrev R : AtomRules TypedCell
-  R = atom_rules typed_rules r
-
   -- by a mark
   abbrev kept : Bool → B → List B → List B
   kept true b bs = b ∷ bs
   kept false b bs = bs
 
-  keep_is : (a : TypedCell) (b : B) (bs : List B) → keep_if R (look typed_rules a) b bs ≡ kept (mark a) b bs
+  keep_is : (a : TypedCell) (b : B) (bs : List B) → keep_if (atom_rules typed_rules r) (look typed_rules a) b bs ≡ kept (mark a) b bs
   keep_is (TBool true) b bs = refl
   keep_is (TBool false) b bs = refl
   keep_is (TInt z) b bs = refl
@@ -84,48 +79,48 @@ module _ (r : Ty) {B : Type 0} where
   kept_append false b xs ys = refl
 
   masked_push : (ms : List TypedCell) (bs : List B) (k : ℕ) (t : Bool) (b : B) → slice_get (each mark ms) k ≡ Some t → slice_get bs k ≡ Some b
-      → masked R (take (k + 1) ms) (take (k + 1) bs) ≡ masked R (take k ms) (take k bs) ++ kept t b []
+      → masked (atom_rules typed_rules r) (take (k + 1) ms) (take (k + 1) bs) ≡ masked (atom_rules typed_rules r) (take k ms) (take k bs) ++ kept t b []
   masked_push [] bs k t b e f = absurd (let h = e in cc)
   masked_push (m ∷ ms) [] k t b e f = absurd (let h = f in cc)
   masked_push (m ∷ ms) (c ∷ bs) zero t b e f = keep_is m c [] ∙ (λ i. kept ((let s : mark m ≡ t = cc in s) i) ((let s : c ≡ b = cc in s) i) [])
   masked_push (m ∷ ms) (c ∷ bs) (suc k) t b e f =
       let next : suc k + 1 ≡ suc (k + 1) = omega arith in
-      (λ i. masked R (take (next i) (m ∷ ms)) (take (next i) (c ∷ bs)))
-      ∙ ap (keep_if R (look typed_rules m) c) (masked_push ms bs k t b e f) ∙ keep_is m c (masked R (take k ms) (take k bs) ++ kept t b [])
-      ∙ sym (ap (λ ys. ys ++ kept t b []) (keep_is m c (masked R (take k ms) (take k bs))) ∙ kept_append (mark m) c (masked R (take k ms) (take k bs)) (kept t b []))
+      (λ i. masked (atom_rules typed_rules r) (take (next i) (m ∷ ms)) (take (next i) (c ∷ bs)))
+      ∙ ap (keep_if (atom_rules typed_rules r) (look typed_rules m) c) (masked_push ms bs k t b e f) ∙ keep_is m c (masked (atom_rules typed_rules r) (take k ms) (take k bs) ++ kept t b [])
+      ∙ sym (ap (λ ys. ys ++ kept t b []) (keep_is m c (masked (atom_rules typed_rules r) (take k ms) (take k bs))) ∙ kept_append (mark m) c (masked (atom_rules typed_rules r) (take k ms) (take k bs)) (kept t b []))
 
-  pub masked_count : (ms : List TypedCell) (bs : List B) → length (masked R ms bs) ≡ count_marks (take (length bs) ms)
+  pub masked_count : (ms : List TypedCell) (bs : List B) → length (masked (atom_rules typed_rules r) ms bs) ≡ count_marks (take (length bs) ms)
   masked_count [] [] = refl
   masked_count [] (b ∷ bs) = refl
   masked_count (m ∷ ms) [] = refl
-  masked_count (m ∷ ms) (b ∷ bs) = ap length (keep_is m b (masked R ms bs)) ∙ by (mark m) ∙ ap (λ n. if mark m then suc n else n) (masked_count ms bs)
+  masked_count (m ∷ ms) (b ∷ bs) = ap length (keep_is m b (masked (atom_rules typed_rules r) ms bs)) ∙ by (mark m) ∙ ap (λ n. if mark m then suc n else n) (masked_count ms bs)
     where
-      by : (t : Bool) → length (kept t b (masked R ms bs)) ≡ (if t then suc (length (masked R ms bs)) else length (masked R ms bs))
+      by : (t : Bool) → length (kept t b (masked (atom_rules typed_rules r) ms bs)) ≡ (if t then suc (length (masked (atom_rules typed_rules r) ms bs)) else length (masked (atom_rules typed_rules r) ms bs))
       by true = refl
       by false = refl
 
   -- no more marks, or no more cells
-  masked_end : (ms : List TypedCell) (bs : List B) (k : ℕ) → length ms ≤ k → masked R ms (take k bs) ≡ masked R ms bs
+  masked_end : (ms : List TypedCell) (bs : List B) (k : ℕ) → length ms ≤ k → masked (atom_rules typed_rules r) ms (take k bs) ≡ masked (atom_rules typed_rules r) ms bs
   masked_end [] bs k h = refl
   masked_end (m ∷ ms) bs zero h = absurd (omega (arith, h))
   masked_end (m ∷ ms) [] (suc k) h = refl
-  masked_end (m ∷ ms) (b ∷ bs) (suc k) h = ap (keep_if R (look typed_rules m) b) (masked_end ms bs k (omega (arith, h)))
+  masked_end (m ∷ ms) (b ∷ bs) (suc k) h = ap (keep_if (atom_rules typed_rules r) (look typed_rules m) b) (masked_end ms bs k (omega (arith, h)))
 
-  masked_short : (ms : List TypedCell) (bs : List B) (k : ℕ) → length bs ≤ k → masked R (take k ms) bs ≡ masked R ms bs
+  masked_short : (ms : List TypedCell) (bs : List B) (k : ℕ) → length bs ≤ k → masked (atom_rules typed_rules r) (take k ms) bs ≡ masked (atom_rules typed_rules r) ms bs
   masked_short [] bs zero h = refl
   masked_short [] bs (suc k) h = refl
   masked_short (m ∷ ms) [] zero h = refl
   masked_short (m ∷ ms) [] (suc k) h = refl
   masked_short (m ∷ ms) (b ∷ bs) zero h = absurd (omega (arith, h))
-  masked_short (m ∷ ms) (b ∷ bs) (suc k) h = ap (keep_if R (look typed_rules m) b) (masked_short ms bs k (omega (arith, h)))
+  masked_short (m ∷ ms) (b ∷ bs) (suc k) h = ap (keep_if (atom_rules typed_rules r) (look typed_rules m) b) (masked_short ms bs k (omega (arith, h)))
 
 -- f of the kept items is what is kept of f of the items
 pub masked_each : (r : Ty) {B C : Type 0} (f : B → C) (ms : List TypedCell) (bs : List B) → masked (atom_rules typed_rules r) ms (each f bs) ≡ each f (masked (atom_rules typed_rules r) ms bs)
 masked_each r f [] bs = refl
 masked_each r f (m ∷ ms) [] = refl
-masked_each r {B} {C} f (m ∷ ms) (b ∷ bs) = ap (keep_if (R r {C}) (look typed_rules m) (f b)) (masked_each r f ms bs) ∙ keep_is r m (f b) (each f (masked (R r {B}) ms bs)) ∙ by (mark m) ∙ ap (each f) (sym (keep_is r m b (masked (R r {B}) ms bs)))
+masked_each r f (m ∷ ms) (b ∷ bs) = ap (keep_if (atom_rules typed_rules r) (look typed_rules m) (f b)) (masked_each r f ms bs) ∙ keep_is r m (f b) (each f (masked (atom_rules typed_rules r) ms bs)) ∙ by (mark m) ∙ ap (each f) (sym (keep_is r m b (masked (atom_rules typed_rules r) ms bs)))
   where
-    by : (t : Bool) → kept r t (f b) (each f (masked (R r {B}) ms bs)) ≡ each f (kept r t b (masked (R r {B}) ms bs))
+    by : (t : Bool) → kept r t (f b) (each f (masked (atom_rules typed_rules r) ms bs)) ≡ each f (kept r t b (masked (atom_rules typed_rules r) ms bs))
     by true = refl
     by false = refl
 

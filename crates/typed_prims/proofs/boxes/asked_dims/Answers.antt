@@ -6,9 +6,9 @@ use Rattle.typed_prims.specs.Boxes.{wanted}
 use Rattle.typed_prims.proofs.BoxRows.{no_rank, wanted_more}
 use Rattle.typed_prims.proofs.boxes.asked_dims.Goals as goal
 
-pub returns-then-len-gt-MOST_DIMS : goal.returns-then-len-gt-MOST_DIMS
-returns-then-len-gt-MOST_DIMS c =
-    let many : 64 < length c.args.atoms.now = omega (arith, c.len.ensures.len, c.if-len-gt-MOST_DIMS.true) in
+pub returns-then-atoms-gt-MOST_DIMS : goal.returns-then-atoms-gt-MOST_DIMS
+returns-then-atoms-gt-MOST_DIMS c =
+    let many : 64 < length c.args.atoms.now = omega (arith, c.if-atoms-gt-MOST_DIMS.true) in
     no_rank c.args.atoms.now many
 
 pub returns-then-dim-from : goal.returns-then-dim-from

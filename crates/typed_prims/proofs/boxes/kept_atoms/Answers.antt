@@ -19,4 +19,4 @@ returns c = λ r.
     c.loop-place.invariant r
     ∙ ap joined
     (kept_end r (each cell_of c.args.marks.now) c.args.count (product c.args.cell.now) c.args.atoms.now k c.min-place-end.result
-    (c.min-place-end.ensures ∙ ap (λ n. min n c.args.count) (c.len.ensures.len ∙ sym (each_length cell_of c.args.marks.now))) c.loop-place.auto.place-end (omega (arith, c.loop-place-test.false)))
+    (c.min-place-end.ensures ∙ ap (λ n. min n c.args.count) (sym (each_length cell_of c.args.marks.now))) c.loop-place.auto.place-end (omega (arith, c.loop-place-test.false)))

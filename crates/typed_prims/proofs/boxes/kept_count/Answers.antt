@@ -1,4 +1,4 @@
-use Rattle.std.proofs.Common.{arith, ◌∙◌, ap, ◌+◌, ◌≤◌, min}
+use Rattle.std.proofs.Common.{arith, ◌∙◌, ap, ◌+◌, ◌≤◌}
 use Rattle.core_syntax.specs.Lists.{each}
 use Rattle.core_syntax.specs.RefineTerms.{cell_of}
 use Rattle.typed_prims.proofs.Marks.{count_more, count_end, one_at_most}
@@ -14,4 +14,4 @@ loop-place-preserved c =
 pub returns : goal.returns
 returns c =
     c.loop-place.invariant.0
-    ∙ count_end cell_of c.args.marks.now c.args.count c.loop-place.place c.min-place-end.result (c.min-place-end.ensures ∙ ap (λ n. min n c.args.count) c.len.ensures.len) c.loop-place.auto.place-end (omega (arith, c.loop-place-test.false))
+    ∙ count_end cell_of c.args.marks.now c.args.count c.loop-place.place c.min-place-end.result c.min-place-end.ensures c.loop-place.auto.place-end (omega (arith, c.loop-place-test.false))

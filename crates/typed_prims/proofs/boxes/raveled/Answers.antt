@@ -10,7 +10,7 @@ use Rattle.core_syntax.specs.Typed.{typed_rules}
 use Rattle.typed_prims.specs.ArrayAnswers.{answer_is}
 use Rattle.typed_prims.proofs.boxes.raveled.Goals as goal
 
-pub returns-in_ok-atoms : goal.returns-in_ok-atoms
-returns-in_ok-atoms c =
+pub returns : goal.returns
+returns c =
     subst (λ m. IfOk c.boxed_by_count.result (λ x. answer_is x ≡ m))
     (λ i. gives_box (atom_rules typed_rules (ty_of c.args.cell.now)) (DimValue c.args.count) (array (c.in_ok-dims.ensures i) (each cell_of (c.in_ok-atoms.ensures i)))) c.boxed_by_count.ensures
