@@ -12,4 +12,4 @@ returns c =
     let size = product c.args.cells.dims.now in
     let xs = c.args.cells.atoms.now in
     subst (λ ys. IfOk c.value.result (λ t. term_of t ≡ array_term_of typed_rules (atom_type (ty_of c.args.item.now)) c.args.cells.dims.now ys))
-    (ap (each cell_of) c.at.ensures ∙ sym (each_take cell_of size (drop (c.args.place * size) xs)) ∙ ap (take size) (sym (each_drop cell_of (c.args.place * size) xs))) c.value.ensures
+    (ap (each cell_of) c.at-atoms.ensures ∙ sym (each_take cell_of size (drop (c.args.place * size) xs)) ∙ ap (take size) (sym (each_drop cell_of (c.args.place * size) xs))) c.value.ensures

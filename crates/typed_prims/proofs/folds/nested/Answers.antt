@@ -11,7 +11,7 @@ loop-place-preserved c =
     let f = c.args.fold in
     let cells = c.args.cells in
     let k = c.loop-place.place in
-    nested_more (cell_of f.function.now) (each index_of f.shapes.now) (ty_of f.answer.now) (atom_type (ty_of f.item.now)) cells.count k cells.dims.now (each cell_of cells.atoms.now) (term_of c.loop-place.acc) _ _ (omega (arith, c.loop-place-test.true)) c.loop-place.invariant c.in_ok-applied.ensures
+    nested_more (cell_of f.function.now) (each index_of f.shapes.now) (ty_of f.answer.now) (atom_type (ty_of f.item.now)) cells.count k cells.dims.now (each cell_of cells.atoms.now) (term_of c.loop-place.acc) _ _ (omega (arith, c.loop-place-test.true)) c.loop-place.invariant c.in_ok-acc.ensures
 
 pub returns : goal.returns
 returns c =
