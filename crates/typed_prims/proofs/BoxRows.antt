@@ -145,8 +145,8 @@ module _ (r : Ty) where
       let cells = masked R ms (runs n size (each cell_of atoms)) in
       let number : kept ≡ length cells = k ∙ sym (masked_count r ms (runs n size (each cell_of atoms)) ∙ ap (λ j. count_marks (take j ms)) (run_count n size (each cell_of atoms))) in
       let same : each cell_of all ≡ joined cells =
-            ap (each cell_of) made ∙ sym (each_joined cell_of (masked R ms (runs n size atoms)))
-            ∙ ap joined (sym (masked_each r (each cell_of) ms (runs n size atoms)) ∙ ap (masked R ms) (sym (each_runs cell_of n size atoms))) in
+      ap (each cell_of) made ∙ sym (each_joined cell_of (masked R ms (runs n size atoms)))
+      ∙ ap joined (sym (masked_each r (each cell_of) ms (runs n size atoms)) ∙ ap (masked R ms) (sym (each_runs cell_of n size atoms))) in
       (λ i. gives_box R (DimValue kept) (array (d i) (same i)))
       ∙ ap (λ m. gives_box R (DimValue m) (array (m ∷ behind ds) (joined cells))) number
       ∙ ap (λ s. filtered R (array [] ms) (array s (each cell_of atoms))) (split_first ds least)

@@ -104,7 +104,12 @@ fn append(alloc: Global, a: &TermExpr, b: &TermExpr, room: u32) -> Result<Answer
         ([m, cell @ ..], [n, ..]) => match formed(alloc, u64::from(*m) + u64::from(*n), cell)? {
             None => Ok(Answer::Trap(TrapKind::Size)),
             Some(dims) => {
-                let atoms = joined_atoms(alloc, term_values::atoms(a), term_values::atoms(b), room)?;
+                let atoms = joined_atoms(
+                    alloc,
+                    term_values::atoms(a),
+                    term_values::atoms(b),
+                    room,
+                )?;
                 Ok(Answer::Gives(dims, atoms))
             }
         },
@@ -169,7 +174,11 @@ fn take(alloc: Global, count: u32, a: &TermExpr, room: u32) -> Result<Answer, Me
         [] => Ok(Answer::Unfit),
         [_, cell @ ..] => {
             let dims = led(alloc, count, cell)?;
-            let atoms = copied_atoms(alloc, front(term_values::atoms(a), count as usize, cell), room)?;
+            let atoms = copied_atoms(
+                alloc,
+                front(term_values::atoms(a), count as usize, cell),
+                room,
+            )?;
             Ok(Answer::Gives(dims, atoms))
         }
     }
@@ -189,7 +198,11 @@ fn drop_front(
         [] => Ok(Answer::Unfit),
         [_, cell @ ..] => {
             let dims = led(alloc, left, cell)?;
-            let atoms = copied_atoms(alloc, behind(term_values::atoms(a), count as usize, cell), room)?;
+            let atoms = copied_atoms(
+                alloc,
+                behind(term_values::atoms(a), count as usize, cell),
+                room,
+            )?;
             Ok(Answer::Gives(dims, atoms))
         }
     }
@@ -342,7 +355,15 @@ fn index_or(
     match term_values::dims(a) {
         [] => Ok(Answer::Unfit),
         [count, cell @ ..] => match seen(place) {
-            Look::Int(place) => cell_or(alloc, *count, cell, term_values::atoms(a), place, other, room),
+            Look::Int(place) => cell_or(
+                alloc,
+                *count,
+                cell,
+                term_values::atoms(a),
+                place,
+                other,
+                room,
+            ),
             _ => Ok(Answer::Unfit),
         },
     }
@@ -362,7 +383,12 @@ fn cell_or(
 {
     match cell_place(place, count) {
         Some(place) => copied(alloc, cell, at(atoms, place, cell), room),
-        None => copied(alloc, term_values::dims(other), term_values::atoms(other), room),
+        None => copied(
+            alloc,
+            term_values::dims(other),
+            term_values::atoms(other),
+            room,
+        ),
     }
 }
 

@@ -455,7 +455,13 @@ fn kept_atoms(
     let room = room.checked_sub(1).ok_or(Memory)?;
     let mut all = Vec::new(alloc);
     for place in 0..marks.len().min(count as usize) {
-        push_if(&mut all, alloc, is_marked(marks, place), at(atoms, place, cell), room)?;
+        push_if(
+            &mut all,
+            alloc,
+            is_marked(marks, place),
+            at(atoms, place, cell),
+            room,
+        )?;
     }
     Ok(all)
 }

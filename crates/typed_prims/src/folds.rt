@@ -291,12 +291,7 @@ fn goes(term: Result<TermExpr, Memory>) -> Result<Outcome, Memory>
 }
 
 /// The type of arrays of the type argument at a place, of this shape.
-fn result_type(
-    alloc: Global,
-    types: &[Ty],
-    place: usize,
-    shape: &Index,
-) -> Result<Ty, Memory>
+fn result_type(alloc: Global, types: &[Ty], place: usize, shape: &Index) -> Result<Ty, Memory>
     ensures { IfOk result (λ t. ty_of t ≡ typed_rules.typed_result (each ty_of types.now) place (index_of shape.now)) }
 {
     let element = type_at(alloc, types, place)?;

@@ -11,8 +11,7 @@ ghost use Rattle.core_syntax.specs.Terms.{TNoAtoms, TFrame, TNoCells, TApp, TTyp
 ghost use Rattle.reduction_laws.specs.Readings.{note_read};
 
 use core_syntax::{
-    Base, Index, IndexForm, Memory, NormShape, Note, Part, Sort, TermAtom, TermExpr, Ty,
-    TyForm,
+    Base, Index, IndexForm, Memory, NormShape, Note, Part, Sort, TermAtom, TermExpr, Ty, TyForm,
 };
 use sqlite_items::Items;
 use std::alloc::Global;
