@@ -1,16 +1,25 @@
 #!/bin/sh
 # Runs the command lines that examples/ and docs/TUTORIAL.md show, and compares what they print with the lines shown below
-# them. It also compares the programs that crate worked_examples runs with those of examples/. It is no part of the gate,
-# and fails where something differs.
+# them. Where an example reads data, its line has the file: `run FILE < DATA`. It also compares the programs and the data of crate
+# worked_examples with those of examples/. It is no part of the gate, and fails where something differs.
 #
-# usage: bench/examples.sh [PROGRAM]    PROGRAM stands for ./remora
+# usage: bench/examples.sh [PROGRAM]    PROGRAM is a built program, which stands for the repository's own
 set -eu
 top=$(dirname -- "$(dirname -- "$(readlink -f -- "$0")")")
-program=$(readlink -f -- "${1:-$top/remora}")
 work=$(mktemp -d)
 trap 'rm -rf "$work"' EXIT
-cd "$work"
-ln -s "$program" remora
+remora=$top/remora
+if [ $# -gt 0 ]; then
+    # the launcher in a tree of its own, where this program is the one that is built
+    mkdir -p "$work/tree/crates/remora_cli/out"
+    cp "$top/remora" "$top/crates.txt" "$work/tree"
+    ln -s "$top/docs" "$work/tree/docs"
+    ln -s "$(readlink -f -- "$1")" "$work/tree/crates/remora_cli/out/remora_cli"
+    remora=$work/tree/remora
+fi
+mkdir "$work/here"
+cd "$work/here"
+ln -s "$remora" remora
 ln -s "$top/examples" examples
 failed=0
 
@@ -37,9 +46,10 @@ for text in examples/*.remora "$top/docs/TUTORIAL.md"; do
     done
 done
 
-# A program without its comments and empty lines stands in the table of worked_examples.
+# A program, or its data, without its comments and empty lines stands in the table of worked_examples. Data is named as the
+# program that it is for, and a program that has data has a line that reads it.
 table=$(cat "$top/crates/worked_examples/src/programs.rt")
-for text in examples/*.remora; do
+for text in examples/*.remora examples/*.data; do
     source=$(sed '/^;/d; /^$/d' "$text")
     case $table in
         *"\"$source\""*) ;;
@@ -48,5 +58,11 @@ for text in examples/*.remora; do
             failed=1
             ;;
     esac
+done
+for data in examples/*.data; do
+    grep -q "^;   \$ .* ${data%.data}.remora < $data\$" "${data%.data}.remora" || {
+        echo "$data: no line of ${data%.data}.remora reads it" >&2
+        failed=1
+    }
 done
 exit $failed

@@ -1,7 +1,7 @@
 -- What is due, from what an answer is.
-use Rattle.std.proofs.Common.{ap, ◌∙◌, ℕ, List, ◌++◌, Option, Some, None}
+use Rattle.std.proofs.Common.{◌≡◌, refl, ap, ◌∙◌, ℕ, List, [], ◌++◌, length, replicate, Option, Some, None}
 use Rattle.std.specs.Io.KnownBytes.{IsAtEnd, Consumes}
-use Rattle.std.proofs.lemmas.List.{append-nil}
+use Rattle.std.proofs.lemmas.List.{append-nil, length-replicate}
 use Rattle.remora_driver.specs.Top.{IsTold}
 
 -- bytes that were read to their end are those that were left
@@ -9,3 +9,12 @@ pub told_read : (old new : Option (List ℕ)) (bytes : List ℕ) → Consumes ol
 told_read None new bytes taken end = tt
 told_read (Some a) None bytes taken end = absurd taken
 told_read (Some a) (Some b) bytes taken end = taken ∙ ap (λ rest. bytes ++ rest) end ∙ append-nil bytes
+
+-- some bytes that the source tells
+pub told_some : (left : Option (List ℕ)) → (bytes : List ℕ) × IsTold left bytes
+told_some (Some bytes) = (bytes, refl)
+told_some None = ([], tt)
+
+-- there are as many bytes as one likes
+pub some_bytes : (n : ℕ) → (bytes : List ℕ) × (length bytes ≡ n)
+some_bytes n = (replicate n 0, length-replicate n 0)

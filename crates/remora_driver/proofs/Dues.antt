@@ -1,59 +1,59 @@
 -- What is due, from what the code and the machine say.
-use Rattle.std.proofs.Common.{◌≡◌, refl, sym, ap, ◌∙◌, subst, ℕ, ◌+◌, ◌<◌, max, arith, List, [], length, Option, Some, None, Result, Ok, Err}
-use Rattle.std.specs.Prelude.{IfOk, IfErr, IfSome, replicate}
-use Rattle.std.proofs.lemmas.List.{length-replicate}
+use Rattle.std.proofs.Common.{◌≡◌, refl, sym, ap, subst, ℕ, suc, ◌+◌, ◌<◌, max, arith, List, [], ◌∷◌, length, Option, Some, None, Result, Ok, Err}
+use Rattle.std.specs.Prelude.{IfOk, IfErr, IfSome}
 use Rattle.core_syntax.specs.declared.span.Span.{Span}
-use Rattle.core_syntax.specs.Lists.{each}
-use Rattle.core_syntax.specs.NormTypes.{norm_ty}
+use Rattle.core_syntax.specs.Data.{FitsType}
+use Rattle.core_syntax.specs.Lists.{each, EachTwo}
 use Rattle.core_syntax.specs.Syntax.{Ty, Program}
 use Rattle.core_syntax.specs.Typing.{Has, body_context}
+use Rattle.array_values.specs.Data.{array_data}
 use Rattle.array_values.specs.Values.{Array}
 use Rattle.code_text.specs.Blame.{CodeText}
-use Rattle.lowering.specs.Params.{ty_param}
 use Rattle.machine.specs.declared.running.Outcome.{Outcome}
 use Rattle.machine.specs.declared.running.Outcome.TheVariants as outcome
 use Rattle.machine.specs.Answers.{Answers}
-use Rattle.machine_table.specs.Codes.{Code}
+use Rattle.machine.proofs.Runs.{never}
+use Rattle.machine_table.specs.Codes.{Code, Param}
 use Rattle.machine_table.specs.Machine.{Goes, start}
 use Rattle.machine_table.specs.Machine as table
+use Rattle.machine_table.specs.ParamTypes.{type_of}
 use Rattle.machine_table.specs.ValueRules.{value_rules}
 use Rattle.remora_driver.specs.declared.errors.SourceRefusal.{SourceRefusal}
 use Rattle.remora_driver.specs.declared.errors.SourceRefusal.TheVariants as no_text
 use Rattle.remora_driver.specs.declared.reply.Reply.{Reply}
 use Rattle.remora_driver.specs.Calls.{RefusesBuild}
-use Rattle.remora_driver.specs.Due.{Answer, written, IsCodeDue, ends, goes_on, IsRefused, too_long, IsCheckDue, check_refused, checks, not_accepted, IsRunDue, run_refused, runs, IsBuildDue, build_refused, builds, text_too_long, reduce_refused, IsJobDue, no_job, does, refused, accepted, front, usage}
-use Rattle.remora_driver.specs.Programs.{IsAcceptedSource}
-use Rattle.remora_driver.specs.Top.{IsTold, IsDueFor}
+use Rattle.remora_driver.specs.Due.{Answer, written, refused, accepted, front, usage, HasCodeEnd, ends, goes_on, IsRefused, too_long, IsCheckDue, check_refused, checks, IsBuildDue, build_refused, builds, run_refused, text_too_long, reduce_refused, without, IsJobDue, TakesData, no_job, does}
 use Rattle.remora_driver.specs.Jobs.{longest, IsJob}
 use Rattle.remora_driver.specs.declared.job.Job.{Job}
 use Rattle.remora_driver.specs.declared.job.Job.TheVariants.{Check, Build, Run, Exec, Reduce}
+use Rattle.remora_driver.specs.Programs.{IsAcceptedSource}
 use Rattle.remora_driver.specs.Sources.{IsCompiled, Compiles, seen, told}
-use Rattle.machine.proofs.Runs.{never}
+use Rattle.remora_driver.specs.Top.{IsDueFor, IsJobDueFor}
+use Rattle.remora_driver.proofs.Answers.{told_some, some_bytes}
 
 -- ---- codes
 
 -- what a machine that has done nothing answers
-pub answered : {E : Type 0} (r : Result Outcome E) (code own : Code) (inputs : List Array) (budget steps n : ℕ) → own ≡ code → inputs ≡ [] → steps ≡ 0 → IfOk r (λ o. Answers own inputs (max budget steps) n o) → IfOk r (λ o. (k : ℕ) × Answers code [] budget k o)
-answered (Ok o) code own inputs budget steps n same no_inputs none h =
+pub answered : {E : Type 0} (r : Result Outcome E) (code own : Code) (inputs owned : List Array) (budget steps n : ℕ) → own ≡ code → owned ≡ inputs → steps ≡ 0 → IfOk r (λ o. Answers own owned (max budget steps) n o) → IfOk r (λ o. (k : ℕ) × Answers code inputs budget k o)
+answered (Ok o) code own inputs owned budget steps n same are none h =
     let most : max budget steps ≡ budget = omega (arith, none) in
-    (n, subst (λ (c : Code). Answers c [] budget n o) same (subst (λ (xs : List Array). Answers own xs budget n o) no_inputs (subst (λ (m : ℕ). Answers own inputs m n o) most h)))
-answered (Err e) code own inputs budget steps n same no_inputs none h = tt
+    (n, subst (λ (c : Code). Answers c inputs budget n o) same (subst (λ (xs : List Array). Answers own xs budget n o) are (subst (λ (m : ℕ). Answers own owned m n o) most h)))
+answered (Err e) code own inputs owned budget steps n same are none h = tt
 
--- what is due for a code, from what the machine answers
-pub code_due : (code : Code) (budget : ℕ) (o : Outcome) → ((k : ℕ) × Answers code [] budget k o) → IsCodeDue code budget (told o)
-code_due code budget (outcome.Done a) (k, h) = ends k (table.Done a) h.0 h.1 refl
-code_due code budget (outcome.Trap t) (k, h) = ends k (table.Trap t) h.0 h.1 refl
-code_due code budget (outcome.Stuck t) (k, h) = ends k (table.Stuck t) h.0 h.1 refl
-code_due code budget outcome.Going (k, h) =
-    goes_on (λ n o within end. never code.blocks budget n (Goes (start value_rules code.blocks [])) o h.1.0 within end h.1.1) refl
+-- how a code ends, from what the machine answers
+pub code_ends : (code : Code) (inputs : List Array) (budget : ℕ) (o : Outcome) → ((k : ℕ) × Answers code inputs budget k o) → HasCodeEnd code budget (each array_data inputs) (told o)
+code_ends code inputs budget (outcome.Done a) (k, h) = ends inputs k (table.Done a) refl h.0 h.1 refl
+code_ends code inputs budget (outcome.Trap t) (k, h) = ends inputs k (table.Trap t) refl h.0 h.1 refl
+code_ends code inputs budget (outcome.Stuck t) (k, h) = ends inputs k (table.Stuck t) refl h.0 h.1 refl
+code_ends code inputs budget outcome.Going (k, h) =
+    goes_on inputs refl (λ n o within end. never code.blocks budget n (Goes (start value_rules code.blocks inputs)) o h.1.0 within end h.1.1) refl
 
--- and for the source that has it
-pub run_due : (bytes : List ℕ) (budget : ℕ) (code : Code) → IsCompiled bytes code → (a : Answer) → IsCodeDue code budget a → IsRunDue bytes budget a
-run_due bytes budget code is a due = runs is.program is.notes is.runs (subst (λ (c : Code). IsCodeDue c budget a) is.compiled due)
-
--- such a code has no inputs
-pub no_params : (bytes : List ℕ) (code : Code) → IsCompiled bytes code → code.params ≡ []
-no_params bytes code is = ap (λ (c : Code). c.params) is.compiled ∙ ap (λ (ts : List Ty). each ty_param (each norm_ty ts)) is.runs.inputs
+-- there are as many arrays that fit as types
+pub as_many : (ps : List Param) (inputs : List Array) → EachTwo FitsType (each type_of ps) (each array_data inputs) → length inputs ≡ length ps
+as_many [] [] fits = refl
+as_many [] (a ∷ inputs) fits = absurd fits
+as_many (p ∷ ps) [] fits = absurd fits
+as_many (p ∷ ps) (a ∷ inputs) fits = ap suc (as_many ps inputs fits.1)
 
 -- the text of the code that a source has
 pub text_due : {T : Type 0} (bytes : List ℕ) (code : Code) (bytes_of : T → List ℕ) (r : Result T SourceRefusal) → IsCompiled bytes code → IfOk r (λ text. CodeText code (bytes_of text)) → IfOk r (λ text. IsBuildDue bytes (written (bytes_of text)))
@@ -86,35 +86,40 @@ built_due bytes a (Err e) due h = tt
 
 -- ---- calls
 
--- what is due for a job on bytes that are too long
-job_too_long : (job : Job) (bytes : List ℕ) (a : Answer) → longest job < length bytes → a ≡ refused 31 front → IsJobDue job bytes a
-job_too_long Check bytes a long is = check_refused 31 front (too_long long refl refl) is
-job_too_long Build bytes a long is = build_refused 31 front (not_accepted (too_long long refl refl)) is
-job_too_long (Run budget) bytes a long is = run_refused 31 front (not_accepted (too_long long refl refl)) is
-job_too_long (Exec budget) bytes a long is = text_too_long long is
-job_too_long (Reduce budget) bytes a long is = reduce_refused 31 front (too_long long refl refl) is
+-- bytes that are too long are refused whatever the data, and take none
+job_too_long : (job : Job) (bytes given : List ℕ) (a : Answer) → longest job < length bytes → a ≡ refused 31 front → IsJobDue job bytes given a
+job_too_long Check bytes given a long is = check_refused 31 front (too_long long refl refl) is
+job_too_long Build bytes given a long is = build_refused 31 front (too_long long refl refl) is
+job_too_long (Run budget) bytes given a long is = run_refused 31 front (too_long long refl refl) is
+job_too_long (Exec budget) bytes given a long is = text_too_long long is
+job_too_long (Reduce budget) bytes given a long is = reduce_refused 31 front (too_long long refl refl) is
 
--- there are as many bytes as one likes
-some_bytes : (n : ℕ) → (bytes : List ℕ) × (length bytes ≡ n)
-some_bytes n = (replicate n 0, length-replicate n 0)
+takes_no_data : (job : Job) (bytes : List ℕ) → longest job < length bytes → TakesData job bytes → ⊥
+takes_no_data Check bytes long takes = takes
+takes_no_data Build bytes long takes = takes
+takes_no_data (Run budget) bytes long takes = let short = takes.1.short in absurd (omega (arith, long, short))
+takes_no_data (Exec budget) bytes long takes = let short = takes.1 in absurd (omega (arith, long, short))
+takes_no_data (Reduce budget) bytes long takes = let short = takes.1.short in absurd (omega (arith, long, short))
 
 -- a source that is too long is refused
-pub told_too_long : (job : Job) (left : Option (List ℕ)) (a : Answer) → IfSome left (λ bytes. longest job < length bytes) → a ≡ refused 31 front → (bytes : List ℕ) × IsTold left bytes × IsJobDue job bytes a
-told_too_long job (Some bytes) a long is = (bytes, refl, job_too_long job bytes a long is)
-told_too_long job None a long is =
+pub told_too_long : (job : Job) (left input : Option (List ℕ)) (a : Answer) → IfSome left (λ bytes. longest job < length bytes) → a ≡ refused 31 front → IsJobDueFor job left input a
+told_too_long job (Some bytes) input a long is =
+    let given = told_some input in
+    (bytes, given.0, refl, given.1, without (λ takes. takes_no_data job bytes long takes) (job_too_long job bytes [] a long is))
+told_too_long job None input a long is =
     let others = some_bytes (longest job + 1) in
-    (others.0, tt, job_too_long job others.0 a (omega (arith, others.1)) is)
-
--- some bytes that the source tells
-told_some : (left : Option (List ℕ)) → (bytes : List ℕ) × IsTold left bytes
-told_some (Some bytes) = (bytes, refl)
-told_some None = ([], tt)
+    let given = told_some input in
+    let over : longest job < length others.0 = omega (arith, others.1) in
+    (others.0, given.0, tt, given.1, without (λ takes. takes_no_data job others.0 over takes) (job_too_long job others.0 [] a over is))
 
 -- the answer of a job is due
-pub job_is_due : {E : Type 0} (words : List (List ℕ)) (left : Option (List ℕ)) (job : Job) (r : Result Reply E) → IsJob words job → IfOk r (λ a. (bytes : List ℕ) × IsTold left bytes × IsJobDue job bytes (seen a)) → IfOk r (λ a. IsDueFor words left (seen a))
-job_is_due words left job (Ok a) is (bytes, told, due) = (bytes, told, does job is due)
-job_is_due words left job (Err e) is due = tt
+pub job_is_due : {E : Type 0} (words : List (List ℕ)) (left input : Option (List ℕ)) (job : Job) (r : Result Reply E) → IsJob words job → IfOk r (λ a. IsJobDueFor job left input (seen a)) → IfOk r (λ a. IsDueFor words left input (seen a))
+job_is_due words left input job (Ok a) is h = (h.0, h.1, h.2, h.3, does job is h.4)
+job_is_due words left input job (Err e) is due = tt
 
 -- so is the usage line of other words
-pub usage_is_due : (words : List (List ℕ)) (left : Option (List ℕ)) (a : Answer) → ((j : Job) → ¬ (IsJob words j)) → a ≡ usage → IsDueFor words left a
-usage_is_due words left a none is = let some = told_some left in (some.0, some.1, no_job (λ call. none call.0 call.1) is)
+pub usage_is_due : (words : List (List ℕ)) (left input : Option (List ℕ)) (a : Answer) → ((j : Job) → ¬ (IsJob words j)) → a ≡ usage → IsDueFor words left input a
+usage_is_due words left input a none is =
+    let some = told_some left in
+    let given = told_some input in
+    (some.0, given.0, some.1, given.1, no_job (λ call. none call.0 call.1) is)

@@ -1,75 +1,106 @@
--- What is due for a program that runs today is what typed reduction of the program comes to.
-use Rattle.std.proofs.Common.{subst, ℕ, List, []}
+-- What is due for a program that runs is what typed reduction of the program comes to.
+use Rattle.std.proofs.Common.{◌≡◌, sym, subst, ℕ, ◌≤◌, List}
 use Rattle.std.proofs.Math.Logic.{∥∥₁_map}
 use Rattle.core_syntax.specs.declared.errors.StuckKind.{StuckKind}
+use Rattle.core_syntax.specs.Data.{Data, FitsValues}
+use Rattle.core_syntax.specs.Lists.{each}
 use Rattle.core_syntax.specs.Literals.{LiteralsFit}
 use Rattle.core_syntax.specs.Notes.{NodeNote}
 use Rattle.core_syntax.specs.Syntax.{Ty, Program}
+use Rattle.array_values.specs.Data.{array_data}
+use Rattle.array_values.specs.Values.{Array}
+use Rattle.array_values.specs.declared.value.Value.{Value}
 use Rattle.reduction_laws.specs.Laws.{IsReady}
-use Rattle.machine_table.specs.Machine.{Done, Trap, Stuck}
+use Rattle.machine_table.specs.Ends.{Ends}
+use Rattle.machine_table.specs.Machine.{Outcome, Done, Trap, Stuck}
+use Rattle.machine_table.specs.ValueRules.{value_rules}
 use Rattle.lowering.specs.Laws.{code_of_program}
 use Rattle.compiled_laws.specs.Laws.{DoesAsSource}
 use Rattle.compiled_laws.proofs.Results.{code_does, code_goes_on}
-use Rattle.remora_driver.specs.declared.answer.Answer.{Answer as Given}
-use Rattle.remora_driver.specs.declared.answer.Answer.TheVariants as given
+use Rattle.value_text.specs.DataFits.{Fits}
 use Rattle.remora_driver.specs.declared.job.Job.TheVariants.{Check, Build, Run, Exec, Reduce}
-use Rattle.remora_driver.specs.Calls.{RunsSource, IsUnstuck}
-use Rattle.remora_driver.specs.Due.{Answer, stuck, IsCodeDue, ends, goes_on, IsRunDue, run_refused, runs, IsBuildDue, build_refused, builds, IsDue, no_job, does}
+use Rattle.remora_driver.specs.Due.{Answer, stuck, outcome_answer, still_running, StillRuns, HasCodeEnd, ends, goes_on, IsDueOn, unfit, fitting, IsDueBy, TakesData, IsCodeDue, IsRunDue, run_refused, runs, IsBuildDue, build_refused, builds, IsJobDue, IsDue, no_job, does}
 use Rattle.remora_driver.specs.Laws.{DueMeans}
-use Rattle.remora_driver.specs.Meant.{ShowsReduction, value, trap, unfinished, IsRunMeant, not_run, shows, IsBuildMeant, not_built, gives, IsJobMeant, IsMeant}
-use Rattle.remora_driver.specs.Programs.{IsProgram}
+use Rattle.remora_driver.specs.Meant.{ShowsReduction, value, trap, unfinished, IsRunMeant, not_run, not_fit, shows, AlwaysDoes, IsBuildMeant, not_built, gives, IsJobMeant, IsMeant}
+use Rattle.remora_driver.specs.Programs.{IsProgram, input_types}
+use Rattle.remora_driver.proofs.OneData.{due_by_further}
 use Rattle.remora_driver.proofs.OneDue.{one_job}
 use Rattle.remora_driver.proofs.OneEnd.{not_so}
-use Rattle.remora_driver.proofs.Statuses.{stuck_or_shown, stuck_or_trapped, stuck_or_refused, stuck_or_running}
+use Rattle.remora_driver.proofs.Ready.{ready, inputs_are}
+use Rattle.remora_driver.proofs.Statuses.{stuck_or_shown, stuck_or_trapped, stuck_or_refused, stuck_or_unfit, stuck_or_running}
 
--- the code of a program that runs today does as the source
-pub does_as_source : (bytes : List ℕ) (P : Program) (notes : List NodeNote) → IsProgram bytes P notes → ∥ DoesAsSource P notes [] ∥₁
-does_as_source bytes P notes is = ∥∥₁_map is.ready (λ x. code_does P x.0 notes [] x.1 is.literals)
+-- the code of a program does as the source, on all arrays that fit
+pub does_as_source : (bytes : List ℕ) (P : Program) (notes : List NodeNote) → IsProgram bytes P notes → AlwaysDoes P notes
+does_as_source bytes P notes is = λ inputs fits. ∥∥₁_map is.made (λ x. code_does P x.0 notes inputs (ready P x.0 notes (each array_data inputs) x.1 fits) is.literals)
 
--- what is due for the code is what reduction comes to
-module _ (P : Program) (notes : List NodeNote) (t : Ty) (ready : IsReady P t notes []) (literals : LiteralsFit P) (budget : ℕ) (a : Answer) where
-  does_so : DoesAsSource P notes []
-  does_so = code_does P t notes [] ready literals
+-- how the code ends is what reduction comes to
+module _ (P : Program) (notes : List NodeNote) (inputs : List Array) (t : Ty) (is_ready : IsReady P t notes (each array_data inputs)) (literals : LiteralsFit P) (budget : ℕ) (a : Answer) where
+  does_so : DoesAsSource P notes inputs
+  does_so = code_does P t notes inputs is_ready literals
 
-  due_shows : IsCodeDue (code_of_program P notes) budget a → ShowsReduction P notes budget a
-  due_shows (ends n (Done x) le end is) = let r = does_so.done n x end in value n r.0 r.1 x le end r.2 r.3 r.4 is
-  due_shows (ends n (Trap kind) le end is) = let r = does_so.trapped n kind end in trap n r.0 kind le end r.1 r.2 is
-  due_shows (ends n (Stuck kind) le end is) = absurd (does_so.never_stuck n kind end)
-  due_shows (goes_on still is) = unfinished still (λ k end. code_goes_on P t notes [] ready literals budget k still end) is
+  end_shows : (n : ℕ) (o : Outcome Value) → n ≤ budget → Ends value_rules (code_of_program P notes) inputs n o → a ≡ outcome_answer o → ShowsReduction P notes inputs budget a
+  end_shows n (Done x) le end is = let r = does_so.done n x end in value n r.0 r.1 x le end r.2 r.3 r.4 is
+  end_shows n (Trap kind) le end is = let r = does_so.trapped n kind end in trap n r.0 kind le end r.1 r.2 is
+  end_shows n (Stuck kind) le end is = absurd (does_so.never_stuck n kind end)
 
-run_means : (bytes : List ℕ) (budget : ℕ) (a : Answer) → IsRunDue bytes budget a → IsRunMeant bytes budget a
-run_means bytes budget a (run_refused number at why is) = not_run number at why is
-run_means bytes budget a (runs P notes is due) = shows P notes is (∥∥₁_map is.ready (λ x. due_shows P notes x.0 x.1 is.literals budget a due))
+  still_shows : StillRuns (code_of_program P notes) inputs budget → a ≡ still_running → ShowsReduction P notes inputs budget a
+  still_shows still is = unfinished still (λ k end. code_goes_on P t notes inputs is_ready literals budget k still end) is
+
+-- and so what is due on data that fits is what typed reduction comes to
+module _ (bytes given : List ℕ) (P : Program) (notes : List NodeNote) (is : IsProgram bytes P notes) (budget : ℕ) (a : Answer) where
+  shown_so : (inputs : List Array) → Fits given (input_types P) (each array_data inputs)
+      → ((t : Ty) → IsReady P t notes (each array_data inputs) → ShowsReduction P notes inputs budget a) → IsRunMeant bytes given budget a
+  shown_so inputs fits f = shows P notes inputs is fits (∥∥₁_map is.made (λ x. f x.0 (ready P x.0 notes (each array_data inputs) x.1 fits.fits)))
+
+  end_means : (xs : List Data) → Fits given (input_types P) xs → HasCodeEnd (code_of_program P notes) budget xs a → IsRunMeant bytes given budget a
+  end_means xs fits (ends inputs n o seen le end same) =
+      shown_so inputs (subst (λ (ys : List Data). Fits given (input_types P) ys) (sym seen) fits) (λ t r. end_shows P notes inputs t r is.literals budget a n o le end same)
+  end_means xs fits (goes_on inputs seen still same) =
+      shown_so inputs (subst (λ (ys : List Data). Fits given (input_types P) ys) (sym seen) fits) (λ t r. still_shows P notes inputs t r is.literals budget a still same)
+
+  on_means : IsDueOn (input_types P) given (HasCodeEnd (code_of_program P notes) budget) a → IsRunMeant bytes given budget a
+  on_means (unfit number at why same) = not_fit P number at is.source why same
+  on_means (fitting xs fits end) = end_means xs fits end
+
+  pub code_means : IsCodeDue (code_of_program P notes) given budget a → IsRunMeant bytes given budget a
+  code_means due = on_means (subst (λ (ts : List Ty). IsDueOn ts given (HasCodeEnd (code_of_program P notes) budget) a) (inputs_are bytes P notes is) due)
+
+run_means : (bytes given : List ℕ) (budget : ℕ) (a : Answer) → IsRunDue bytes given budget a → IsRunMeant bytes given budget a
+run_means bytes given budget a (run_refused number at why is) = not_run number at why is
+run_means bytes given budget a (runs P notes is due) = code_means bytes given P notes is budget a due
 
 build_means : (bytes : List ℕ) (a : Answer) → IsBuildDue bytes a → IsBuildMeant bytes a
 build_means bytes a (build_refused number at why is) = not_built number at why is
 build_means bytes a (builds P notes is ok text) = gives P notes is text (does_as_source bytes P notes is)
 
 pub job_means : DueMeans
-job_means Check bytes a due = tt
-job_means Build bytes a due = build_means bytes a due
-job_means (Run budget) bytes a due = run_means bytes budget a due
-job_means (Exec budget) bytes a due = tt
-job_means (Reduce budget) bytes a due = tt
+job_means Check bytes given a due = tt
+job_means Build bytes given a due = build_means bytes a due
+job_means (Run budget) bytes given a due = run_means bytes given budget a due
+job_means (Exec budget) bytes given a due = tt
+job_means (Reduce budget) bytes given a due = tt
 
-pub due_means : (words : List (List ℕ)) (bytes : List ℕ) (a : Answer) → IsDue words bytes a → IsMeant words bytes a
-due_means words bytes a (no_job none is) = λ job call. absurd (none (job, call))
-due_means words bytes a (does job call due) = λ other call'. subst (λ j. IsJobMeant j bytes a) (one_job words job other call call') (job_means job bytes a due)
+pub due_means : (words : List (List ℕ)) (bytes input : List ℕ) (a : Answer) → IsDue words bytes input a → IsMeant words bytes input a
+due_means words bytes input a (no_job none is) = λ job call. absurd (none (job, call))
+due_means words bytes input a (does job call due) = λ other call'.
+    subst (λ j. IsDueBy (TakesData j bytes) (IsJobMeant j bytes) input a) (one_job words job other call call')
+    (due_by_further (TakesData job bytes) (TakesData job bytes) (IsJobDue job bytes) (IsJobMeant job bytes) input a (λ t. t, λ t. t) (λ given d. job_means job bytes given a d) due)
 
--- a source that is run is never stuck
-run_unstuck : (bytes : List ℕ) (budget : ℕ) (kind : StuckKind) → IsRunDue bytes budget (stuck kind) → ⊥
-run_unstuck bytes budget kind (run_refused number at why is) = stuck_or_refused kind number at is
-run_unstuck bytes budget kind (runs P notes is (ends n (Done x) le end same)) = stuck_or_shown kind x same
-run_unstuck bytes budget kind (runs P notes is (ends n (Trap why) le end same)) = stuck_or_trapped kind why same
-run_unstuck bytes budget _ (runs P notes is (ends n (Stuck why) le end same)) = not_so (does_as_source bytes P notes is) (λ d. d.never_stuck n why end)
-run_unstuck bytes budget kind (runs P notes is (goes_on still same)) = stuck_or_running kind same
+-- ---- a source that is run is never stuck
 
--- and so its call doesn't answer that it is stuck
-pub source_unstuck : (source bytes : List ℕ) (budget : ℕ) (g : Given) → RunsSource source bytes budget g → IsUnstuck g
-source_unstuck source bytes budget (given.Text text) h = tt
-source_unstuck source bytes budget (given.Trap kind) h = tt
-source_unstuck source bytes budget (given.Refused number at) h = tt
-source_unstuck source bytes budget (given.DataRefused number at) h = tt
-source_unstuck source bytes budget (given.Stuck kind) h = run_unstuck source budget kind h.1
-source_unstuck source bytes budget given.StillRunning h = tt
-source_unstuck source bytes budget given.Memory h = tt
+module _ (bytes : List ℕ) (P : Program) (notes : List NodeNote) (is : IsProgram bytes P notes) (budget : ℕ) (kind : StuckKind) where
+  never_ends_stuck : (xs : List Data) → FitsValues (input_types P) xs → HasCodeEnd (code_of_program P notes) budget xs (stuck kind) → ⊥
+  never_ends_stuck xs fits (ends inputs n (Done x) seen le end same) = stuck_or_shown kind x same
+  never_ends_stuck xs fits (ends inputs n (Trap why) seen le end same) = stuck_or_trapped kind why same
+  never_ends_stuck xs fits (ends inputs n (Stuck why) seen le end same) =
+      not_so (does_as_source bytes P notes is inputs (subst (FitsValues (input_types P)) (sym seen) fits)) (λ d. d.never_stuck n why end)
+  never_ends_stuck xs fits (goes_on inputs seen still same) = stuck_or_running kind same
+
+  never_due_stuck : (given : List ℕ) → IsDueOn (input_types P) given (HasCodeEnd (code_of_program P notes) budget) (stuck kind) → ⊥
+  never_due_stuck given (unfit number at why same) = stuck_or_unfit kind number at same
+  never_due_stuck given (fitting xs fits end) = never_ends_stuck xs fits.fits end
+
+pub run_unstuck : (bytes given : List ℕ) (budget : ℕ) (kind : StuckKind) → IsRunDue bytes given budget (stuck kind) → ⊥
+run_unstuck bytes given budget kind (run_refused number at why is) = stuck_or_refused kind number at is
+run_unstuck bytes given budget kind (runs P notes is due) =
+    never_due_stuck bytes P notes is budget kind given (subst (λ (ts : List Ty). IsDueOn ts given (HasCodeEnd (code_of_program P notes) budget) (stuck kind)) (inputs_are bytes P notes is) due)

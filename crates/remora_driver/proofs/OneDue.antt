@@ -1,5 +1,5 @@
 -- One answer is due.
-use Rattle.std.proofs.Common.{◌≡◌, sym, ap, ◌∙◌, subst, ℕ, arith, List, [], ◌++◌, Option, Some, Ok, Err}
+use Rattle.std.proofs.Common.{◌≡◌, sym, ap, ◌∙◌, subst, ℕ, arith, List, ◌++◌, Option, Some, Ok, Err}
 use Rattle.std.proofs.lemmas.Option.{none-some}
 use Rattle.std.proofs.Math.Logic.{∥∥₁_elim, ∥∥₁_map, ∥∥₁_map₂}
 use Rattle.std.specs.Coded.{Coded-set, coded_list, coded_ℕ}
@@ -7,6 +7,7 @@ use Rattle.std.specs.Prelude.{codes}
 use Rattle.std.specs.Str.Parse.{digits_value}
 use Rattle.core_syntax.specs.declared.span.Span.{Span}
 use Rattle.core_syntax.specs.Blame.{Blames}
+use Rattle.core_syntax.specs.Lists.{each}
 use Rattle.core_syntax.specs.NormTypes.{ty_text}
 use Rattle.core_syntax.specs.Notes.{NodeNote, ProgramNotesAre}
 use Rattle.core_syntax.specs.Syntax.{Ty, Program}
@@ -20,17 +21,21 @@ use Rattle.sexp_reader.proofs.Leftmost.{reads_one_way, reads_or_is_refused}
 use Rattle.name_resolve.specs.Means.{NameBlame, program}
 use Rattle.name_resolve.specs.Reading.{Read}
 use Rattle.lowering.specs.Laws.{code_of_program}
+use Rattle.lowering.specs.Params.{ty_param}
+use Rattle.machine_table.specs.Codes.{Code}
+use Rattle.machine_table.specs.ParamTypes.{type_of}
 use Rattle.code_text.specs.Text.{code_text}
 use Rattle.code_text.proofs.Verdicts.{one_code_read}
 use Rattle.remora_driver.specs.declared.job.Job.{Job}
 use Rattle.remora_driver.specs.declared.job.Job.TheVariants.{Check, Build, Run, Exec, Reduce}
-use Rattle.remora_driver.specs.Due.{Answer, written, refused, IsRefused, too_long, unread, unresolved, ill_typed, IsCheckDue, check_refused, checks, HasNoCode, not_accepted, has_inputs, IsRunDue, run_refused, runs, IsBuildDue, build_refused, builds, IsExecDue, text_too_long, no_code, executes, IsReductionDue, IsReduceDue, reduce_refused, reduces, IsJobDue, IsDue, no_job, does}
+use Rattle.remora_driver.specs.Due.{Answer, written, refused, IsRefused, too_long, unread, unresolved, ill_typed, IsCheckDue, check_refused, checks, types_of_inputs, HasCodeEnd, IsDueOn, IsDueBy, IsCodeDue, IsRunDue, run_refused, runs, IsBuildDue, build_refused, builds, IsExecDue, text_too_long, no_code, executes, HasEnd, IsReductionDue, not_reduced, is_reduced, IsReduceDue, reduce_refused, reduces, IsJobDue, TakesData, IsDue, no_job, does}
 use Rattle.remora_driver.specs.Jobs.{IsJob, plain, limited, plain_job, limited_job}
-use Rattle.remora_driver.specs.Programs.{IsSource, IsAcceptedSource, IsProgram}
+use Rattle.remora_driver.specs.Programs.{IsSource, IsAcceptedSource, IsProgram, input_types}
 use Rattle.remora_driver.specs.Texts.{line, accepted_text}
 use Rattle.remora_driver.proofs.JobWords.{first_of_two, two_four, first_of_four, last_of_four}
 use Rattle.remora_driver.proofs.OneBlame.{one_blamed, unblamed}
-use Rattle.remora_driver.proofs.OneEnd.{one_code_due, one_execution, one_reduction}
+use Rattle.remora_driver.proofs.OneData.{one_due_on, one_due_by}
+use Rattle.remora_driver.proofs.OneEnd.{one_code_end, one_end}
 use Rattle.remora_driver.proofs.OneNotes.{program_one_notes}
 
 -- ---- programs
@@ -44,7 +49,7 @@ one_source bytes P Q p q = program_same P Q (sym p.means ∙ ap program (reads_o
 
 -- and of one program's nodes these are the notes
 pub program_notes : (bytes : List ℕ) (P : Program) (notes : List NodeNote) → IsProgram bytes P notes → ∥ ProgramNotesAre P notes ∥₁
-program_notes bytes P notes is = ∥∥₁_map is.ready (λ x. x.1.checked.notes_are)
+program_notes bytes P notes is = ∥∥₁_map is.made (λ x. x.1.checked.notes_are)
 
 pub notes_agree : (P Q : Program) (ns ms : List NodeNote) → P ≡ Q → ∥ ProgramNotesAre P ns ∥₁ → ∥ ProgramNotesAre Q ms ∥₁ → ∥ ns ≡ ms ∥₁
 notes_agree P Q ns ms same are are' =
@@ -70,7 +75,7 @@ pair_same m n p q e = let h : ◌≡◌ {A = Refusal} (m, p) (n, q) = cc in (ap 
 blame_same : (m n : ℕ) (p q : Span) → ◌≡◌ {A = Read Program} (Err (m, p)) (Err (n, q)) → (m ≡ n) × (p ≡ q)
 blame_same m n p q e = let h : ◌≡◌ {A = Refusal} (m, p) (n, q) = cc in (ap (λ (r : Refusal). r.0) h, ap (λ (r : Refusal). r.1) h)
 
-refused_same : (m n : ℕ) (p q : Span) → m ≡ n → p ≡ q → refused m p ≡ refused n q
+pub refused_same : (m n : ℕ) (p q : Span) → m ≡ n → p ≡ q → refused m p ≡ refused n q
 refused_same m n p q e h = ap (λ (k : ℕ). refused k p) e ∙ ap (refused n) h
 
 -- a program that equals a blamed one is blamed
@@ -124,34 +129,28 @@ one_check bytes a b (checks P t is has e) (checks Q u is' has' h) =
 
 -- ---- codes of programs
 
--- a program with inputs doesn't run
-pub inputs_or_not : (bytes : List ℕ) (P Q : Program) (notes : List NodeNote) → IsSource bytes P → ¬ (P.inputs ≡ []) → IsProgram bytes Q notes → ⊥
-inputs_or_not bytes P Q notes is some none = some (ap (λ (R : Program). R.inputs) (one_source bytes P Q is none.source.means) ∙ none.inputs)
+-- what is due for equal codes of the same types
+one_code : (c d : Code) (given : List ℕ) (budget : ℕ) (a b : Answer) → types_of_inputs c ≡ types_of_inputs d → ∥ c ≡ d ∥₁ → IsCodeDue c given budget a → IsCodeDue d given budget b → a ≡ b
+one_code c d given budget a b types same due due' =
+    one_due_on (types_of_inputs d) given (HasCodeEnd c budget) (HasCodeEnd d budget) a b (λ xs fits p q. one_code_end c d same budget (types_of_inputs d) xs fits a b p q)
+    (subst (λ (ts : List Ty). IsDueOn ts given (HasCodeEnd c budget) a) types due) due'
 
-pub one_no_code : (bytes : List ℕ) (m n : ℕ) (p q : Span) → HasNoCode bytes m p → HasNoCode bytes n q → refused m p ≡ refused n q
-one_no_code bytes m n p q (not_accepted why) (not_accepted why') = one_refusal bytes m n p q why why'
-one_no_code bytes m n p q (not_accepted why) (has_inputs Q is some e h) = absurd (refused_or_not bytes m p Q why is)
-one_no_code bytes m n p q (has_inputs P is some e h) (not_accepted why) = absurd (refused_or_not bytes n q P why is)
-one_no_code bytes m n p q (has_inputs P is some e h) (has_inputs Q is' some' e' h') = refused_same m n p q (e ∙ sym e') (h ∙ sym h')
-
--- what has no code doesn't run
-pub code_or_not : (bytes : List ℕ) (n : ℕ) (at : Span) (P : Program) (notes : List NodeNote) → HasNoCode bytes n at → IsProgram bytes P notes → ⊥
-code_or_not bytes n at P notes (not_accepted why) is = refused_or_not bytes n at P why is.source
-code_or_not bytes n at P notes (has_inputs Q source some e h) is = inputs_or_not bytes Q P notes source.means some is
-
-one_run : (bytes : List ℕ) (budget : ℕ) (a b : Answer) → IsRunDue bytes budget a → IsRunDue bytes budget b → a ≡ b
-one_run bytes budget a b (run_refused m p why e) (run_refused n q why' h) = e ∙ one_no_code bytes m n p q why why' ∙ sym h
-one_run bytes budget a b (run_refused m p why e) (runs P ns is due) = absurd (code_or_not bytes m p P ns why is)
-one_run bytes budget a b (runs P ns is due) (run_refused m p why e) = absurd (code_or_not bytes m p P ns why is)
-one_run bytes budget a b (runs P ns is due) (runs Q ms is' due') = one_code_due (code_of_program P ns) (code_of_program Q ms) (codes_agree bytes P Q ns ms is is') budget a b due due'
+one_run : (bytes given : List ℕ) (budget : ℕ) (a b : Answer) → IsRunDue bytes given budget a → IsRunDue bytes given budget b → a ≡ b
+one_run bytes given budget a b (run_refused m p why e) (run_refused n q why' h) = e ∙ one_refusal bytes m n p q why why' ∙ sym h
+one_run bytes given budget a b (run_refused m p why e) (runs P ns is due) = absurd (refused_or_not bytes m p P why is.source)
+one_run bytes given budget a b (runs P ns is due) (run_refused m p why e) = absurd (refused_or_not bytes m p P why is.source)
+one_run bytes given budget a b (runs P ns is due) (runs Q ms is' due') =
+    let types : types_of_inputs (code_of_program P ns) ≡ types_of_inputs (code_of_program Q ms) =
+    ap (λ (R : Program). each type_of (each ty_param (input_types R))) (one_source bytes P Q is.source.means is'.source.means) in
+    one_code (code_of_program P ns) (code_of_program Q ms) given budget a b types (codes_agree bytes P Q ns ms is is') due due'
 
 answer_same : (a b : Answer) → a.status ≡ b.status → a.text ≡ b.text → a ≡ b
 answer_same a b e h = λ i. record { status = e i; text = h i }
 
 one_build : (bytes : List ℕ) (a b : Answer) → IsBuildDue bytes a → IsBuildDue bytes b → a ≡ b
-one_build bytes a b (build_refused m p why e) (build_refused n q why' h) = e ∙ one_no_code bytes m n p q why why' ∙ sym h
-one_build bytes a b (build_refused m p why e) (builds P ns is ok text) = absurd (code_or_not bytes m p P ns why is)
-one_build bytes a b (builds P ns is ok text) (build_refused m p why e) = absurd (code_or_not bytes m p P ns why is)
+one_build bytes a b (build_refused m p why e) (build_refused n q why' h) = e ∙ one_refusal bytes m n p q why why' ∙ sym h
+one_build bytes a b (build_refused m p why e) (builds P ns is ok text) = absurd (refused_or_not bytes m p P why is.source)
+one_build bytes a b (builds P ns is ok text) (build_refused m p why e) = absurd (refused_or_not bytes m p P why is.source)
 one_build bytes a b (builds P ns is ok text) (builds Q ms is' ok' text') =
     let one : a.text ≡ b.text =
     ∥∥₁_elim (codes_agree bytes P Q ns ms is is') (Coded-set (coded_list coded_ℕ) a.text b.text) (λ e. text.text ∙ ap code_text e ∙ sym text'.text) in
@@ -159,27 +158,37 @@ one_build bytes a b (builds P ns is ok text) (builds Q ms is' ok' text') =
 
 -- ---- reductions
 
-one_reduce : (bytes : List ℕ) (budget : ℕ) (a b : Answer) → IsReduceDue bytes budget a → IsReduceDue bytes budget b → a ≡ b
-one_reduce bytes budget a b (reduce_refused m p why e) (reduce_refused n q why' h) = e ∙ one_refusal bytes m n p q why why' ∙ sym h
-one_reduce bytes budget a b (reduce_refused m p why e) (reduces P ns is are due) = absurd (refused_or_not bytes m p P why is)
-one_reduce bytes budget a b (reduces P ns is are due) (reduce_refused m p why e) = absurd (refused_or_not bytes m p P why is)
-one_reduce bytes budget a b (reduces P ns is are due) (reduces Q ms is' are' due') =
+-- what is due for one program with equal notes
+one_reduction : (P : Program) (ns ms : List NodeNote) (given : List ℕ) (budget : ℕ) (a b : Answer) → ∥ ns ≡ ms ∥₁ → IsReductionDue P ns given budget a → IsReductionDue P ms given budget b → a ≡ b
+one_reduction P ns ms given budget a b same (not_reduced none p) (not_reduced none' q) = p ∙ sym q
+one_reduction P ns ms given budget a b same (not_reduced none p) (is_reduced is end) = absurd (none is)
+one_reduction P ns ms given budget a b same (is_reduced is end) (not_reduced none q) = absurd (none is)
+one_reduction P ns ms given budget a b same (is_reduced is end) (is_reduced is' end') =
+    one_due_on (input_types P) given (HasEnd P ns budget) (HasEnd P ms budget) a b (λ xs fits p q. one_end P ns ms same xs budget a b p q) end end'
+
+one_reduce : (bytes given : List ℕ) (budget : ℕ) (a b : Answer) → IsReduceDue bytes given budget a → IsReduceDue bytes given budget b → a ≡ b
+one_reduce bytes given budget a b (reduce_refused m p why e) (reduce_refused n q why' h) = e ∙ one_refusal bytes m n p q why why' ∙ sym h
+one_reduce bytes given budget a b (reduce_refused m p why e) (reduces P ns is are due) = absurd (refused_or_not bytes m p P why is)
+one_reduce bytes given budget a b (reduces P ns is are due) (reduce_refused m p why e) = absurd (refused_or_not bytes m p P why is)
+one_reduce bytes given budget a b (reduces P ns is are due) (reduces Q ms is' are' due') =
     let same : P ≡ Q = one_source bytes P Q is.means is'.means in
     let notes : ∥ ns ≡ ms ∥₁ = notes_agree P Q ns ms same are are' in
-    one_reduction Q ns ms notes budget a b (subst (λ (R : Program). IsReductionDue R ns budget a) same due) due'
+    one_reduction Q ns ms given budget a b notes (subst (λ (R : Program). IsReductionDue R ns given budget a) same due) due'
 
 -- ---- code texts
 
-one_exec : (bytes : List ℕ) (budget : ℕ) (a b : Answer) → IsExecDue bytes budget a → IsExecDue bytes budget b → a ≡ b
-one_exec bytes budget a b (text_too_long l e) (text_too_long l' h) = e ∙ sym h
-one_exec bytes budget a b (text_too_long l e) (no_code k n s blame h) = absurd (omega (arith, l, s))
-one_exec bytes budget a b (text_too_long l e) (executes c s text due) = absurd (omega (arith, l, s))
-one_exec bytes budget a b (no_code k n s blame e) (text_too_long l h) = absurd (omega (arith, l, s))
-one_exec bytes budget a b (no_code k n s blame e) (no_code l m s' blame' h) = e ∙ one_blamed bytes k l n m blame blame' ∙ sym h
-one_exec bytes budget a b (no_code k n s blame e) (executes c s' text due) = absurd (unblamed bytes k n c blame text)
-one_exec bytes budget a b (executes c s text due) (text_too_long l h) = absurd (omega (arith, l, s))
-one_exec bytes budget a b (executes c s text due) (no_code k n s' blame h) = absurd (unblamed bytes k n c blame text)
-one_exec bytes budget a b (executes c s text due) (executes d s' text' due') = one_execution c d ∣ one_code_read c d bytes text text' ∣₁ budget a b due due'
+one_exec : (bytes given : List ℕ) (budget : ℕ) (a b : Answer) → IsExecDue bytes given budget a → IsExecDue bytes given budget b → a ≡ b
+one_exec bytes given budget a b (text_too_long l e) (text_too_long l' h) = e ∙ sym h
+one_exec bytes given budget a b (text_too_long l e) (no_code k n s blame h) = absurd (omega (arith, l, s))
+one_exec bytes given budget a b (text_too_long l e) (executes c s text due) = absurd (omega (arith, l, s))
+one_exec bytes given budget a b (no_code k n s blame e) (text_too_long l h) = absurd (omega (arith, l, s))
+one_exec bytes given budget a b (no_code k n s blame e) (no_code l m s' blame' h) = e ∙ one_blamed bytes k l n m blame blame' ∙ sym h
+one_exec bytes given budget a b (no_code k n s blame e) (executes c s' text due) = absurd (unblamed bytes k n c blame text)
+one_exec bytes given budget a b (executes c s text due) (text_too_long l h) = absurd (omega (arith, l, s))
+one_exec bytes given budget a b (executes c s text due) (no_code k n s' blame h) = absurd (unblamed bytes k n c blame text)
+one_exec bytes given budget a b (executes c s text due) (executes d s' text' due') =
+    let same : c ≡ d = one_code_read c d bytes text text' in
+    one_code c d given budget a b (ap types_of_inputs same) ∣ same ∣₁ due due'
 
 -- ---- calls
 
@@ -195,16 +204,17 @@ one_job words j k (limited c f s n w b p) (limited d g r m v b' q) =
     let same : n ≡ m = sym b.value ∙ ap (digits_value 10) word ∙ b'.value in
     job_same j k (sym p ∙ ap (limited_job c) same ∙ ap (λ (x : List ℕ). limited_job x m) (first_of_four c d f g (codes "--steps") (codes "--steps") s r (sym w ∙ v)) ∙ q)
 
-one_job_due : (job : Job) (bytes : List ℕ) (a b : Answer) → IsJobDue job bytes a → IsJobDue job bytes b → a ≡ b
-one_job_due Check bytes a b p q = one_check bytes a b p q
-one_job_due Build bytes a b p q = one_build bytes a b p q
-one_job_due (Run budget) bytes a b p q = one_run bytes budget a b p q
-one_job_due (Exec budget) bytes a b p q = one_exec bytes budget a b p q
-one_job_due (Reduce budget) bytes a b p q = one_reduce bytes budget a b p q
+one_job_due : (job : Job) (bytes given : List ℕ) (a b : Answer) → IsJobDue job bytes given a → IsJobDue job bytes given b → a ≡ b
+one_job_due Check bytes given a b p q = one_check bytes a b p q
+one_job_due Build bytes given a b p q = one_build bytes a b p q
+one_job_due (Run budget) bytes given a b p q = one_run bytes given budget a b p q
+one_job_due (Exec budget) bytes given a b p q = one_exec bytes given budget a b p q
+one_job_due (Reduce budget) bytes given a b p q = one_reduce bytes given budget a b p q
 
-pub one_due : (words : List (List ℕ)) (bytes : List ℕ) (a b : Answer) → IsDue words bytes a → IsDue words bytes b → a ≡ b
-one_due words bytes a b (no_job n p) (no_job m q) = p ∙ sym q
-one_due words bytes a b (no_job n p) (does job is q) = absurd (n (job, is))
-one_due words bytes a b (does job is p) (no_job n q) = absurd (n (job, is))
-one_due words bytes a b (does job is p) (does job' is' q) =
-    one_job_due job' bytes a b (subst (λ (j : Job). IsJobDue j bytes a) (one_job words job job' is is') p) q
+pub one_due : (words : List (List ℕ)) (bytes input : List ℕ) (a b : Answer) → IsDue words bytes input a → IsDue words bytes input b → a ≡ b
+one_due words bytes input a b (no_job n p) (no_job m q) = p ∙ sym q
+one_due words bytes input a b (no_job n p) (does job is q) = absurd (n (job, is))
+one_due words bytes input a b (does job is p) (no_job n q) = absurd (n (job, is))
+one_due words bytes input a b (does job is p) (does job' is' q) =
+    one_due_by (TakesData job' bytes) (IsJobDue job' bytes) input a b (λ given. one_job_due job' bytes given a b)
+    (subst (λ (j : Job). IsDueBy (TakesData j bytes) (IsJobDue j bytes) input a) (one_job words job job' is is') p) q

@@ -1,15 +1,16 @@
 -- A code ends once, and so do the steps of a program.
-use Rattle.std.proofs.Common.{◌≡◌, refl, sym, ap, ◌∙◌, subst, ℕ, zero, suc, ◌≤◌, List, []}
+use Rattle.std.proofs.Common.{◌≡◌, refl, sym, ap, ◌∙◌, subst, ℕ, zero, suc, ◌≤◌, List}
 use Rattle.std.proofs.Math.Logic.{∥∥₁_elim, ∥∥₁_map}
 use Rattle.std.specs.Coded.{Coded, Coded-set, code_by, coded_list, coded_ℕ}
 use Rattle.core_syntax.specs.declared.errors.StuckKind.{StuckKind}
 use Rattle.core_syntax.specs.declared.errors.StuckKind.TheVariants.{Operand, Kind, Rank, Shape}
 use Rattle.core_syntax.specs.declared.errors.TrapKind.{TrapKind}
 use Rattle.core_syntax.specs.declared.errors.TrapKind.TheVariants.{Overflow, Zero, Size}
-use Rattle.core_syntax.specs.Data.{array_of_value}
+use Rattle.core_syntax.specs.Data.{Data, FitsValues, array_of_value}
+use Rattle.core_syntax.specs.Lists.{each}
 use Rattle.core_syntax.specs.Notes.{NodeNote}
 use Rattle.core_syntax.specs.Start.{def_terms, start_term, Reaches, SourceTraps, SourceGoes}
-use Rattle.core_syntax.specs.Syntax.{Program}
+use Rattle.core_syntax.specs.Syntax.{Ty, Program}
 use Rattle.core_syntax.specs.Typed.{typed_rules, TypedTerm}
 use Rattle.array_values.specs.Data.{array_data}
 use Rattle.array_values.specs.Values.{Array}
@@ -21,8 +22,9 @@ use Rattle.machine_table.specs.ValueRules.{value_rules}
 use Rattle.reduction_laws.proofs.runs.Once.{one_value, one_trap, not_both}
 use Rattle.value_text.specs.ValueText.{array_text}
 use Rattle.value_text.proofs.DataTexts.{text_by_data}
-use Rattle.remora_driver.specs.Due.{Answer, written, trapped, stuck, outcome_answer, StillRuns, IsCodeDue, ends, goes_on, IsExecutionDue, not_executed, is_executed, HasEnd, reaches, traps, keeps_going, IsReductionDue, not_reduced, is_reduced}
+use Rattle.remora_driver.specs.Due.{Answer, written, trapped, stuck, outcome_answer, StillRuns, HasCodeEnd, ends, goes_on, HasEnd, reaches, traps, keeps_going}
 use Rattle.remora_driver.specs.Texts.{line}
+use Rattle.remora_driver.proofs.DataArrays.{same_arrays}
 use Rattle.compiled_laws.proofs.Results.{code_ends_once}
 
 -- ---- kinds
@@ -103,80 +105,77 @@ one_outcome (Stuck k) (Done x) same = absurd (not_so same (λ e. done_or_stuck x
 one_outcome (Stuck k) (Trap l) same = absurd (not_so same (λ e. trap_or_stuck l k (sym e)))
 one_outcome (Stuck k) (Stuck l) same = ap stuck (∥∥₁_elim same (Coded-set coded_stuck k l) (stuck_same k l))
 
--- what is due for a code
-module _ (c d : Code) (same : ∥ c ≡ d ∥₁) (budget : ℕ) where
-  ends_once : (n m : ℕ) (o p : Outcome Value) → Ends value_rules c [] n o → Ends value_rules d [] m p → ∥ o ≡ p ∥₁
-  ends_once n m o p e f =
-      ∥∥₁_map same (λ s. (code_ends_once d [] n m o p (subst (λ (code : Code). Ends value_rules code [] n o) s e) f).1)
+-- two ends of a code on arrays with the same values, which fit
+module _ (c d : Code) (same : ∥ c ≡ d ∥₁) (budget : ℕ) (types : List Ty) (xs : List Data) (fits : FitsValues types xs) where
+  inputs_same : (i j : List Array) → each array_data i ≡ xs → each array_data j ≡ xs → i ≡ j
+  inputs_same i j e f = same_arrays types i j (subst (FitsValues types) (sym e) fits) (e ∙ sym f)
 
-  ends_late : (n : ℕ) (o : Outcome Value) → n ≤ budget → Ends value_rules c [] n o → StillRuns d [] budget → ⊥
-  ends_late n o le e going = not_so same (λ s. going n o le (subst (λ (code : Code). Ends value_rules code [] n o) s e))
+  -- an end of one code on some arrays is that of the other on the same
+  moved : (i j : List Array) (n : ℕ) (o : Outcome Value) → i ≡ j → c ≡ d → Ends value_rules c i n o → Ends value_rules d j n o
+  moved i j n o are s e = subst (λ (l : List Array). Ends value_rules d l n o) are (subst (λ (code : Code). Ends value_rules code i n o) s e)
 
-  goes_late : (n : ℕ) (o : Outcome Value) → n ≤ budget → Ends value_rules d [] n o → StillRuns c [] budget → ⊥
-  goes_late n o le e going = not_so same (λ s. going n o le (subst (λ (code : Code). Ends value_rules code [] n o) (sym s) e))
+  moved_back : (i j : List Array) (n : ℕ) (o : Outcome Value) → i ≡ j → c ≡ d → Ends value_rules d j n o → Ends value_rules c i n o
+  moved_back i j n o are s e = subst (λ (l : List Array). Ends value_rules c l n o) (sym are) (subst (λ (code : Code). Ends value_rules code j n o) (sym s) e)
 
-  pub one_code_due : (a b : Answer) → IsCodeDue c budget a → IsCodeDue d budget b → a ≡ b
-  one_code_due a b (ends n o le end p) (ends m o' le' end' q) = p ∙ one_outcome o o' (ends_once n m o o' end end') ∙ sym q
-  one_code_due a b (ends n o le end p) (goes_on going q) = absurd (ends_late n o le end going)
-  one_code_due a b (goes_on going p) (ends n o le end q) = absurd (goes_late n o le end going)
-  one_code_due a b (goes_on going p) (goes_on going' q) = p ∙ sym q
+  ends_once : (i j : List Array) (n m : ℕ) (o p : Outcome Value) → i ≡ j → Ends value_rules c i n o → Ends value_rules d j m p → ∥ o ≡ p ∥₁
+  ends_once i j n m o p are e f = ∥∥₁_map same (λ s. (code_ends_once d j n m o p (moved i j n o are s e) f).1)
 
-  pub one_execution : (a b : Answer) → IsExecutionDue c budget a → IsExecutionDue d budget b → a ≡ b
-  one_execution a b (not_executed some p) (not_executed some' q) = p ∙ sym q
-  one_execution a b (not_executed some p) (is_executed none due) = absurd (not_so same (λ s. some (ap (λ (code : Code). code.params) s ∙ none)))
-  one_execution a b (is_executed none due) (not_executed some q) = absurd (not_so same (λ s. some (ap (λ (code : Code). code.params) (sym s) ∙ none)))
-  one_execution a b (is_executed none due) (is_executed none' due') = one_code_due a b due due'
+  ends_late : (i j : List Array) (n : ℕ) (o : Outcome Value) → i ≡ j → n ≤ budget → Ends value_rules c i n o → StillRuns d j budget → ⊥
+  ends_late i j n o are le e going = not_so same (λ s. going n o le (moved i j n o are s e))
+
+  goes_late : (i j : List Array) (n : ℕ) (o : Outcome Value) → i ≡ j → n ≤ budget → Ends value_rules d j n o → StillRuns c i budget → ⊥
+  goes_late i j n o are le e going = not_so same (λ s. going n o le (moved_back i j n o are s e))
+
+  pub one_code_end : (a b : Answer) → HasCodeEnd c budget xs a → HasCodeEnd d budget xs b → a ≡ b
+  one_code_end a b (ends i n o seen le end p) (ends j m o' seen' le' end' q) = p ∙ one_outcome o o' (ends_once i j n m o o' (inputs_same i j seen seen') end end') ∙ sym q
+  one_code_end a b (ends i n o seen le end p) (goes_on j seen' going q) = absurd (ends_late i j n o (inputs_same i j seen seen') le end going)
+  one_code_end a b (goes_on i seen going p) (ends j n o seen' le end q) = absurd (goes_late i j n o (inputs_same i j seen seen') le end going)
+  one_code_end a b (goes_on i seen going p) (goes_on j seen' going' q) = p ∙ sym q
 
 -- ---- reductions
 
 -- two ends of the steps of one program
-module _ (P : Program) (ns ms : List NodeNote) (same : ∥ ns ≡ ms ∥₁) where
-  pub values_agree : (k l : ℕ) (v w : TypedTerm) (x y : Array) → Reaches P ns [] k v → Reaches P ms [] l w → array_data x ≡ array_of_value typed_rules v → array_data y ≡ array_of_value typed_rules w → array_text x ≡ array_text y
+module _ (P : Program) (ns ms : List NodeNote) (same : ∥ ns ≡ ms ∥₁) (xs : List Data) where
+  pub values_agree : (k l : ℕ) (v w : TypedTerm) (x y : Array) → Reaches P ns xs k v → Reaches P ms xs l w → array_data x ≡ array_of_value typed_rules v → array_data y ≡ array_of_value typed_rules w → array_text x ≡ array_text y
   values_agree k l v w x y r s is is' =
       ∥∥₁_elim same (Coded-set (coded_list coded_ℕ) (array_text x) (array_text y)) (λ e.
-      let one : v ≡ w = (one_value typed_rules (def_terms P ms) k l (start_term P ms []) v w (subst (λ (os : List NodeNote). Reaches P os [] k v) e r) s).1 in
+      let one : v ≡ w = (one_value typed_rules (def_terms P ms) k l (start_term P ms xs) v w (subst (λ (os : List NodeNote). Reaches P os xs k v) e r) s).1 in
       text_by_data x y (is ∙ ap (array_of_value typed_rules) one ∙ sym is'))
 
-  pub kinds_agree : (k l : ℕ) (kind kind' : TrapKind) → SourceTraps P ns [] k kind → SourceTraps P ms [] l kind' → kind ≡ kind'
+  pub kinds_agree : (k l : ℕ) (kind kind' : TrapKind) → SourceTraps P ns xs k kind → SourceTraps P ms xs l kind' → kind ≡ kind'
   kinds_agree k l kind kind' r s =
-      ∥∥₁_elim same (Coded-set coded_kind kind kind') (λ e. (one_trap typed_rules (def_terms P ms) k l (start_term P ms []) kind kind' (subst (λ (os : List NodeNote). SourceTraps P os [] k kind) e r) s).1)
+      ∥∥₁_elim same (Coded-set coded_kind kind kind') (λ e. (one_trap typed_rules (def_terms P ms) k l (start_term P ms xs) kind kind' (subst (λ (os : List NodeNote). SourceTraps P os xs k kind) e r) s).1)
 
-  pub value_or_trap : (k l : ℕ) (v : TypedTerm) (kind : TrapKind) → Reaches P ns [] k v → SourceTraps P ms [] l kind → ⊥
+  pub value_or_trap : (k l : ℕ) (v : TypedTerm) (kind : TrapKind) → Reaches P ns xs k v → SourceTraps P ms xs l kind → ⊥
   value_or_trap k l v kind r s =
-      ∥∥₁_elim same (λ x y. absurd x) (λ e. not_both typed_rules (def_terms P ms) k l (start_term P ms []) v kind (subst (λ (os : List NodeNote). Reaches P os [] k v) e r) s)
+      ∥∥₁_elim same (λ x y. absurd x) (λ e. not_both typed_rules (def_terms P ms) k l (start_term P ms xs) v kind (subst (λ (os : List NodeNote). Reaches P os xs k v) e r) s)
 
-  pub trap_or_value : (k l : ℕ) (kind : TrapKind) (w : TypedTerm) → SourceTraps P ns [] k kind → Reaches P ms [] l w → ⊥
+  pub trap_or_value : (k l : ℕ) (kind : TrapKind) (w : TypedTerm) → SourceTraps P ns xs k kind → Reaches P ms xs l w → ⊥
   trap_or_value k l kind w r s =
-      ∥∥₁_elim same (λ x y. absurd x) (λ e. not_both typed_rules (def_terms P ms) l k (start_term P ms []) w kind s (subst (λ (os : List NodeNote). SourceTraps P os [] k kind) e r))
+      ∥∥₁_elim same (λ x y. absurd x) (λ e. not_both typed_rules (def_terms P ms) l k (start_term P ms xs) w kind s (subst (λ (os : List NodeNote). SourceTraps P os xs k kind) e r))
 
 -- and within one budget
-module _ (P : Program) (ns ms : List NodeNote) (same : ∥ ns ≡ ms ∥₁) (budget : ℕ) where
+module _ (P : Program) (ns ms : List NodeNote) (same : ∥ ns ≡ ms ∥₁) (xs : List Data) (budget : ℕ) where
   -- what goes on has no end
-  no_value : (k : ℕ) (v : TypedTerm) → k ≤ budget → Reaches P ns [] k v → SourceGoes P ms [] budget → ⊥
-  no_value k v le r going = ∥∥₁_elim same (λ x y. absurd x) (λ e. (going k le).0 v (subst (λ (os : List NodeNote). Reaches P os [] k v) e r))
+  no_value : (k : ℕ) (v : TypedTerm) → k ≤ budget → Reaches P ns xs k v → SourceGoes P ms xs budget → ⊥
+  no_value k v le r going = ∥∥₁_elim same (λ x y. absurd x) (λ e. (going k le).0 v (subst (λ (os : List NodeNote). Reaches P os xs k v) e r))
 
-  no_trap : (k : ℕ) (kind : TrapKind) → k ≤ budget → SourceTraps P ns [] k kind → SourceGoes P ms [] budget → ⊥
-  no_trap k kind le r going = ∥∥₁_elim same (λ x y. absurd x) (λ e. (going k le).1 kind (subst (λ (os : List NodeNote). SourceTraps P os [] k kind) e r))
+  no_trap : (k : ℕ) (kind : TrapKind) → k ≤ budget → SourceTraps P ns xs k kind → SourceGoes P ms xs budget → ⊥
+  no_trap k kind le r going = ∥∥₁_elim same (λ x y. absurd x) (λ e. (going k le).1 kind (subst (λ (os : List NodeNote). SourceTraps P os xs k kind) e r))
 
-  going_or_value : (l : ℕ) (w : TypedTerm) → l ≤ budget → SourceGoes P ns [] budget → Reaches P ms [] l w → ⊥
-  going_or_value l w le going s = ∥∥₁_elim same (λ x y. absurd x) (λ e. (going l le).0 w (subst (λ (os : List NodeNote). Reaches P os [] l w) (sym e) s))
+  going_or_value : (l : ℕ) (w : TypedTerm) → l ≤ budget → SourceGoes P ns xs budget → Reaches P ms xs l w → ⊥
+  going_or_value l w le going s = ∥∥₁_elim same (λ x y. absurd x) (λ e. (going l le).0 w (subst (λ (os : List NodeNote). Reaches P os xs l w) (sym e) s))
 
-  going_or_trap : (l : ℕ) (kind : TrapKind) → l ≤ budget → SourceGoes P ns [] budget → SourceTraps P ms [] l kind → ⊥
-  going_or_trap l kind le going s = ∥∥₁_elim same (λ x y. absurd x) (λ e. (going l le).1 kind (subst (λ (os : List NodeNote). SourceTraps P os [] l kind) (sym e) s))
+  going_or_trap : (l : ℕ) (kind : TrapKind) → l ≤ budget → SourceGoes P ns xs budget → SourceTraps P ms xs l kind → ⊥
+  going_or_trap l kind le going s = ∥∥₁_elim same (λ x y. absurd x) (λ e. (going l le).1 kind (subst (λ (os : List NodeNote). SourceTraps P os xs l kind) (sym e) s))
 
-  one_end : (a b : Answer) → HasEnd P ns budget a → HasEnd P ms budget b → a ≡ b
-  one_end a b (reaches k v x le r is p) (reaches l w y le' s is' q) = p ∙ ap (λ (text : List ℕ). written (line text)) (values_agree P ns ms same k l v w x y r s is is') ∙ sym q
-  one_end a b (reaches k v x le r is p) (traps l kind le' s q) = absurd (value_or_trap P ns ms same k l v kind r s)
+  pub one_end : (a b : Answer) → HasEnd P ns budget xs a → HasEnd P ms budget xs b → a ≡ b
+  one_end a b (reaches k v x le r is p) (reaches l w y le' s is' q) = p ∙ ap (λ (text : List ℕ). written (line text)) (values_agree P ns ms same xs k l v w x y r s is is') ∙ sym q
+  one_end a b (reaches k v x le r is p) (traps l kind le' s q) = absurd (value_or_trap P ns ms same xs k l v kind r s)
   one_end a b (reaches k v x le r is p) (keeps_going going q) = absurd (no_value k v le r going)
-  one_end a b (traps k kind le r p) (reaches l w y le' s is' q) = absurd (trap_or_value P ns ms same k l kind w r s)
-  one_end a b (traps k kind le r p) (traps l kind' le' s q) = p ∙ ap trapped (kinds_agree P ns ms same k l kind kind' r s) ∙ sym q
+  one_end a b (traps k kind le r p) (reaches l w y le' s is' q) = absurd (trap_or_value P ns ms same xs k l kind w r s)
+  one_end a b (traps k kind le r p) (traps l kind' le' s q) = p ∙ ap trapped (kinds_agree P ns ms same xs k l kind kind' r s) ∙ sym q
   one_end a b (traps k kind le r p) (keeps_going going q) = absurd (no_trap k kind le r going)
   one_end a b (keeps_going going p) (reaches l w y le' s is' q) = absurd (going_or_value l w le' going s)
   one_end a b (keeps_going going p) (traps l kind le' s q) = absurd (going_or_trap l kind le' going s)
   one_end a b (keeps_going going p) (keeps_going going' q) = p ∙ sym q
-
-  pub one_reduction : (a b : Answer) → IsReductionDue P ns budget a → IsReductionDue P ms budget b → a ≡ b
-  one_reduction a b (not_reduced none p) (not_reduced none' q) = p ∙ sym q
-  one_reduction a b (not_reduced none p) (is_reduced is end) = absurd (none is)
-  one_reduction a b (is_reduced is end) (not_reduced none q) = absurd (none is)
-  one_reduction a b (is_reduced is end) (is_reduced is' end') = one_end a b end end'

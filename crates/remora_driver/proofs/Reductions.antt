@@ -1,92 +1,87 @@
 -- What is due for a reduction, from what steps of the program's start say.
-use Rattle.std.proofs.Common.{◌≡◌, refl, sym, ap, ◌∙◌, subst, ℕ, ◌≤◌, List, [], ◌∷◌, length, Bool as Truth, true, false, Some, Result, Ok, Err}
-use Rattle.std.specs.Prelude.{IfOk, IsTrue, ◌↔◌, slice_get}
-use Rattle.std.proofs.lemmas.Option.{none-some}
-use Rattle.std.proofs.Math.Logic.{∥∥₁_elim, ∥∥₁_map}
+use Rattle.std.proofs.Common.{◌≡◌, refl, sym, ap, ◌∙◌, subst, ℕ, List, Bool as Truth, true, false, Result, Ok, Err}
+use Rattle.std.specs.Prelude.{IfOk, IsTrue, ◌↔◌}
+use Rattle.std.proofs.Math.Logic.{∥∥₁_map}
 use Rattle.core_syntax.specs.declared.checked.Checked.{Checked}
-use Rattle.core_syntax.specs.declared.errors.Memory.{Memory}
 use Rattle.core_syntax.specs.declared.errors.StuckKind.{StuckKind}
-use Rattle.core_syntax.specs.declared.errors.TrapKind.{TrapKind}
 use Rattle.core_syntax.specs.declared.program.Program.{Program}
-use Rattle.core_syntax.specs.declared.span.Span.{Span}
-use Rattle.core_syntax.specs.Data.{FitsValues}
+use Rattle.core_syntax.specs.Data.{Data, FitsValues}
 use Rattle.core_syntax.specs.Lists.{each}
 use Rattle.core_syntax.specs.Literals.{LiteralsFit}
-use Rattle.core_syntax.specs.NormTypes.{norm_ty}
 use Rattle.core_syntax.specs.Notes.{NodeNote, ProgramNotesAre}
 use Rattle.core_syntax.specs.Refine.{ty_of}
 use Rattle.core_syntax.specs.RefineTerms.{term_of}
-use Rattle.core_syntax.specs.Start.{def_terms}
+use Rattle.core_syntax.specs.Start.{def_terms, start_term, Reaches}
+use Rattle.core_syntax.specs.Step.{ReachesValue}
 use Rattle.core_syntax.specs.Syntax as syntax
+use Rattle.core_syntax.specs.Typed.{typed_rules, TypedTerm}
 use Rattle.core_syntax.specs.Wholes.{program_of}
-use Rattle.core_syntax.proofs.Unique.{some_is}
-use Rattle.sexp_reader.specs.declared.sexp.Sexp.{Sexp}
-use Rattle.sexp_reader.specs.declared.sexp.SexpForm.{SexpForm}
-use Rattle.sexp_reader.specs.declared.sexp.SexpForm.TheVariants.{Int, Bool, Char, Text, Symbol, Seq'}
-use Rattle.sexp_reader.specs.Forms.{Forms, no_forms, more_forms, form_at, forms_of}
-use Rattle.sexp_reader.specs.Reads.{Reads}
 use Rattle.typed_step.specs.declared.closed.Closed.{Closed}
 use Rattle.typed_step.specs.declared.closed.Next.{Next}
 use Rattle.typed_step.specs.declared.closed.Next.TheVariants as next
-use Rattle.typed_step.specs.Steps.{Reduced}
+use Rattle.typed_step.specs.Steps.{IsTerm, Reduced}
 use Rattle.reduction_laws.proofs.runs.Results.{reaches_data}
-use Rattle.remora_driver.specs.declared.answer.Answer.{Answer as Given}
-use Rattle.remora_driver.specs.declared.answer.Answer.TheVariants as given
-use Rattle.remora_driver.specs.declared.errors.DataRefusal.{DataRefusal}
-use Rattle.remora_driver.specs.declared.errors.DataRefusal.TheVariants as no_data
 use Rattle.remora_driver.specs.declared.reducing.Reduction.{Reduction}
 use Rattle.remora_driver.specs.declared.reducing.Reduction.TheVariants as reduction
-use Rattle.remora_driver.specs.Calls.{IsUnstuck, ReducesSource}
-use Rattle.remora_driver.specs.Due.{Answer, front, stuck, HasEnd, reaches, traps, keeps_going, IsReductionDue, not_reduced, is_reduced, IsReduceDue, reduce_refused, reduces}
-use Rattle.remora_driver.specs.Jobs.{longest_source}
-use Rattle.remora_driver.specs.Programs.{IsAcceptedSource}
+use Rattle.remora_driver.specs.Due.{front, stuck, IsDueOn, unfit, fitting, HasEnd, reaches, traps, keeps_going, IsReductionDue, not_reduced, is_reduced, IsReduceDue, reduce_refused, reduces}
+use Rattle.remora_driver.specs.Programs.{input_types}
 use Rattle.remora_driver.specs.Reducible.{IsReducible}
-use Rattle.remora_driver.specs.Reductions.{notes_of, IsStarted, StandsAt, IsPrinted, IsValueOf, ended, EndsIn, IsCheckedDue, place_of, surplus, LooksForData, LooksForForms}
-use Rattle.remora_driver.proofs.Statuses.{stuck_or_shown, stuck_or_trapped, stuck_or_refused, stuck_or_running}
+use Rattle.remora_driver.specs.Reductions.{notes_of, IsEndOf, IsEndIn, Prints, PrintsValues, EndsFrom, EndsIn, ended}
+use Rattle.remora_driver.proofs.Statuses.{stuck_or_shown, stuck_or_trapped, stuck_or_refused, stuck_or_unfit, stuck_or_running}
 
--- ---- inputs
+-- ---- values that are reached
 
--- no data fits no inputs
-pub none_fits : (P : syntax.Program) (inputs : List syntax.Ty) → P.inputs ≡ [] → inputs ≡ each norm_ty P.inputs → FitsValues inputs []
-none_fits P inputs none e = subst (λ ts. FitsValues ts []) (sym (e ∙ ap (each norm_ty) none)) tt
+-- where each value that a term reaches is of a printable type, so is the one at which its steps stand
+reduced_prints : (closed : Closed) (budget : ℕ) (n : Next) → PrintsValues closed → Reduced (each term_of closed.defs) (term_of closed.term) budget n → Prints n
+reduced_prints closed budget (next.Value c) prints h = prints h.1.0 (term_of c.term) h.1.2
+reduced_prints closed budget (next.Trap kind) prints h = tt
+reduced_prints closed budget (next.Goes c) prints h = tt
 
-fits_one_way : (ts : List syntax.Ty) (x y : FitsValues ts []) → x ≡ y
-fits_one_way [] x y = refl
-fits_one_way (t ∷ ts) x y = absurd x
+pub steps_print : {E : Type 0} (closed : Closed) (budget : ℕ) (r : Result Next E) → PrintsValues closed → IfOk r (λ n. Reduced (each term_of closed.defs) (term_of closed.term) budget n) → IfOk r (λ n. Prints n)
+steps_print closed budget (Ok n) prints h = reduced_prints closed budget n prints h
+steps_print closed budget (Err e) prints h = tt
 
--- no data fits a program that is reduced today
-pub takes_none : (c : Checked) → IsReducible (program_of c.program) → FitsValues (each ty_of c.inputs) []
-takes_none c is = ∥∥₁_elim c.checked (fits_one_way (each ty_of c.inputs)) (λ x. none_fits (program_of c.program) (each ty_of c.inputs) is.inputs x.inputs_are)
+-- the start of a checked program on data that fits
+module _ (c : Checked) (xs : List Data) (closed : Closed) (starts : IsTerm (def_terms (program_of c.program) (notes_of c)) (start_term (program_of c.program) (notes_of c) xs) closed) where
+  -- what its term reaches the program does
+  start_reaches : (k : ℕ) (v : TypedTerm) → ReachesValue typed_rules (each term_of closed.defs) k (term_of closed.term) v → Reaches (program_of c.program) (notes_of c) xs k v
+  start_reaches k v reached =
+      subst (λ (t : TypedTerm). ReachesValue typed_rules (def_terms (program_of c.program) (notes_of c)) k t v) starts.1
+      (subst (λ (ds : List TypedTerm). ReachesValue typed_rules ds k (term_of closed.term) v) starts.0 reached)
 
--- ---- ends of runs
+  -- and so is of a printable type
+  pub start_prints : FitsValues (each ty_of c.inputs) xs → LiteralsFit (program_of c.program) → PrintsValues closed
+  start_prints fits literals = λ k v reached.
+      ∥∥₁_map c.checked (λ x. (
+        ty_of c.body,
+        reaches_data (program_of c.program) (ty_of c.body) (notes_of c) xs (record { inputs = each ty_of c.inputs; made = c.program.well_made; checked = x; fits = fits }) literals k v (start_reaches k v reached),
+      ))
 
--- steps of a program's start
-pub stands_from : (c : Checked) (closed : Closed) (budget : ℕ) (r : Result Next Memory) → IsStarted c closed → IfOk r (λ n. Reduced (each term_of closed.defs) (term_of closed.term) budget n) → IfOk r (λ n. StandsAt c budget n)
-stands_from c closed budget r started h =
-    subst (λ t. IfOk r (λ n. Reduced (def_terms (program_of c.program) (notes_of c)) t budget n)) started.1
-    (subst (λ defs. IfOk r (λ n. Reduced defs (term_of closed.term) budget n)) started.0 h)
+  -- ---- ends of runs
 
--- a value that is reached is one of a printable type
-pub reached_prints : (c : Checked) (budget : ℕ) (closed : Closed) → IsReducible (program_of c.program) → LiteralsFit (program_of c.program) → StandsAt c budget (next.Value closed) → IsPrinted (term_of closed.term)
-reached_prints c budget closed is literals stands =
-    ∥∥₁_map c.checked (λ x. (
-      ty_of c.body,
-      reaches_data (program_of c.program) (ty_of c.body) (notes_of c) []
-          (record { inputs = each ty_of c.inputs; made = c.program.well_made; checked = x; fits = none_fits (program_of c.program) (each ty_of c.inputs) is.inputs x.inputs_are })
-          literals stands.1.0 (term_of closed.term) stands.1.2,
-    ))
+  -- where its steps stand, the program's do
+  start_reduced : (budget : ℕ) (n : Next) → Reduced (each term_of closed.defs) (term_of closed.term) budget n → Reduced (def_terms (program_of c.program) (notes_of c)) (start_term (program_of c.program) (notes_of c) xs) budget n
+  start_reduced budget n h =
+      subst (λ (t : TypedTerm). Reduced (def_terms (program_of c.program) (notes_of c)) t budget n) starts.1
+      (subst (λ (ds : List TypedTerm). Reduced ds (term_of closed.term) budget n) starts.0 h)
 
-pub ends_at_value : {E : Type 0} (c : Checked) (budget : ℕ) (closed : Closed) (r : Result Reduction E) → StandsAt c budget (next.Value closed) → IfOk r (λ e. IsValueOf (term_of closed.term) e) → IfOk r (λ e. EndsIn c budget (ended e))
-ends_at_value c budget closed (Ok (reduction.Value a)) stands is = reaches stands.1.0 (term_of closed.term) a stands.1.1 stands.1.2 is refl
-ends_at_value c budget closed (Ok (reduction.Trap kind)) stands is = absurd is
-ends_at_value c budget closed (Ok reduction.Going) stands is = absurd is
-ends_at_value c budget closed (Err e) stands is = tt
+  end_is : (budget : ℕ) (n : Next) (e : Reduction) → Reduced (def_terms (program_of c.program) (notes_of c)) (start_term (program_of c.program) (notes_of c) xs) budget n → IsEndOf n e → EndsIn c budget xs (ended e)
+  end_is budget (next.Value d) (reduction.Value a) h is = reaches h.1.0 (term_of d.term) a h.1.1 h.1.2 is refl
+  end_is budget (next.Value d) (reduction.Trap kind) h is = absurd is
+  end_is budget (next.Value d) reduction.Going h is = absurd is
+  end_is budget (next.Trap kind) e h is = traps h.0 kind h.1 h.2 (ap ended is)
+  end_is budget (next.Goes d) e h is = keeps_going h.2 (ap ended is)
 
-pub ends_in_trap : (c : Checked) (budget : ℕ) (kind : TrapKind) → StandsAt c budget (next.Trap kind) → EndsIn c budget (ended (reduction.Trap kind))
-ends_in_trap c budget kind stands = traps stands.0 kind stands.1 stands.2 refl
+  pub start_ends : {E : Type 0} (budget : ℕ) (r : Result Reduction E) → IfOk r (λ e. EndsFrom closed budget e) → IfOk r (λ e. EndsIn c budget xs (ended e))
+  start_ends budget (Ok e) h = end_is budget h.0 e (start_reduced budget h.0 h.1) h.2
+  start_ends budget (Err e) h = tt
 
-pub ends_going : (c : Checked) (budget : ℕ) (closed : Closed) → StandsAt c budget (next.Goes closed) → EndsIn c budget (ended reduction.Going)
-ends_going c budget closed stands = keeps_going stands.2 refl
+-- an end of steps is an end from their term
+pub ends_from : {E F : Type 0} (closed : Closed) (budget : ℕ) (r : Result Next E) (s : Result Reduction F) → IfOk r (λ n. Reduced (each term_of closed.defs) (term_of closed.term) budget n) → IfOk s (λ e. IsEndIn r e) → IfOk s (λ e. EndsFrom closed budget e)
+ends_from closed budget (Ok n) (Ok e) h is = (n, h, is)
+ends_from closed budget (Err x) (Ok e) h is = absurd is
+ends_from closed budget (Ok n) (Err y) h is = tt
+ends_from closed budget (Err x) (Err y) h is = tt
 
 -- ---- the test
 
@@ -105,59 +100,21 @@ module _ (c : Checked) (P : Program) (b : Truth) (same : P ≡ c.program) (tells
 pub notes_are : (c : Checked) → ∥ ProgramNotesAre (program_of c.program) (notes_of c) ∥₁
 notes_are c = ∥∥₁_map c.checked (λ x. x.notes_are)
 
--- ---- data
+-- ---- it is never due that a reduction is stuck
 
--- a tree's form stands where the tree does
-at_form : (at : Span) (f : SexpForm) → place_of (form_at at f) ≡ at
-at_form at (Int z) = refl
-at_form at (Bool b) = refl
-at_form at (Char c) = refl
-at_form at (Text t) = refl
-at_form at (Symbol t) = refl
-at_form at (Seq' shape row) = refl
+end_unstuck : (P : syntax.Program) (notes : List NodeNote) (budget : ℕ) (xs : List Data) (kind : StuckKind) → HasEnd P notes budget xs (stuck kind) → ⊥
+end_unstuck P notes budget xs kind (reaches k v x le r same is) = stuck_or_shown kind x is
+end_unstuck P notes budget xs kind (traps k why le r is) = stuck_or_trapped kind why is
+end_unstuck P notes budget xs kind (keeps_going going is) = stuck_or_running kind is
 
--- the first of some forms is refused
-pub at_first : (x : Sexp) (forms : List Sexp) → slice_get forms 0 ≡ Some x → LooksForForms {V = Unit {0}} (forms_of forms) (Err (no_data.Refused 41 x.at))
-at_first x [] e = absurd (none-some x e)
-at_first x (y ∷ ys) e = (refl, ap (λ (f : Sexp). f.at) (sym (some_is y x e)) ∙ sym (at_form y.at y.form))
+on_unstuck : (P : syntax.Program) (notes : List NodeNote) (types : List syntax.Ty) (given : List ℕ) (budget : ℕ) (kind : StuckKind) → IsDueOn types given (HasEnd P notes budget) (stuck kind) → ⊥
+on_unstuck P notes types given budget kind (unfit number at why is) = stuck_or_unfit kind number at is
+on_unstuck P notes types given budget kind (fitting xs fits end) = end_unstuck P notes budget xs kind end
 
--- data that reads as forms
-pub looked : {V : Type 0} (bytes : List ℕ) (fs : Forms) (r : Result V DataRefusal) → length bytes ≤ longest_source → Reads bytes fs → LooksForForms fs r → LooksForData bytes r
-looked bytes no_forms (Ok v) short reads h = (short, reads)
-looked bytes no_forms (Err e) short reads h = absurd h
-looked bytes (more_forms f fs) (Ok v) short reads h = absurd h
-looked bytes (more_forms f fs) (Err (no_data.Refused number at)) short reads h = surplus f fs short reads h.0 h.1
-looked bytes (more_forms f fs) (Err no_data.Memory) short reads h = absurd h
+reduction_unstuck : (P : syntax.Program) (notes : List NodeNote) (given : List ℕ) (budget : ℕ) (kind : StuckKind) → IsReductionDue P notes given budget (stuck kind) → ⊥
+reduction_unstuck P notes given budget kind (not_reduced none is) = stuck_or_refused kind 90 front is
+reduction_unstuck P notes given budget kind (is_reduced is end) = on_unstuck P notes (input_types P) given budget kind end
 
--- ---- calls
-
--- what is due of a checked program that is reduced
-pub reduced_due : (c : Checked) (budget : ℕ) (a : Answer) → IsReducible (program_of c.program) → EndsIn c budget a → IsCheckedDue c budget a
-reduced_due c budget a is end = is_reduced is end
-
--- and of its source
-pub source_due : (source : List ℕ) (budget : ℕ) (c : Checked) (a : Answer) → IsAcceptedSource source (program_of c.program) → IsCheckedDue c budget a → IsReduceDue source budget a
-source_due source budget c a is due = reduces (program_of c.program) (notes_of c) is (notes_are c) due
-
--- which is never that it is stuck
-end_unstuck : (P : syntax.Program) (notes : List NodeNote) (budget : ℕ) (kind : StuckKind) → HasEnd P notes budget (stuck kind) → ⊥
-end_unstuck P notes budget kind (reaches k v x le r same is) = stuck_or_shown kind x is
-end_unstuck P notes budget kind (traps k why le r is) = stuck_or_trapped kind why is
-end_unstuck P notes budget kind (keeps_going going is) = stuck_or_running kind is
-
-reduction_unstuck : (P : syntax.Program) (notes : List NodeNote) (budget : ℕ) (kind : StuckKind) → IsReductionDue P notes budget (stuck kind) → ⊥
-reduction_unstuck P notes budget kind (not_reduced none is) = stuck_or_refused kind 90 front is
-reduction_unstuck P notes budget kind (is_reduced reducible end) = end_unstuck P notes budget kind end
-
-reduce_unstuck : (source : List ℕ) (budget : ℕ) (kind : StuckKind) → IsReduceDue source budget (stuck kind) → ⊥
-reduce_unstuck source budget kind (reduce_refused number at why is) = stuck_or_refused kind number at is
-reduce_unstuck source budget kind (reduces P notes is are due) = reduction_unstuck P notes budget kind due
-
-pub source_unstuck : (source bytes : List ℕ) (budget : ℕ) (g : Given) → ReducesSource source bytes budget g → IsUnstuck g
-source_unstuck source bytes budget (given.Text text) h = tt
-source_unstuck source bytes budget (given.Trap kind) h = tt
-source_unstuck source bytes budget (given.Refused number at) h = tt
-source_unstuck source bytes budget (given.DataRefused number at) h = tt
-source_unstuck source bytes budget (given.Stuck kind) h = reduce_unstuck source budget kind h.1
-source_unstuck source bytes budget given.StillRunning h = tt
-source_unstuck source bytes budget given.Memory h = tt
+pub reduce_unstuck : (source given : List ℕ) (budget : ℕ) (kind : StuckKind) → IsReduceDue source given budget (stuck kind) → ⊥
+reduce_unstuck source given budget kind (reduce_refused number at why is) = stuck_or_refused kind number at is
+reduce_unstuck source given budget kind (reduces P notes is are due) = reduction_unstuck P notes given budget kind due

@@ -6,7 +6,7 @@ use Rattle.core_syntax.specs.declared.span.Span.{Span}
 use Rattle.array_values.specs.Values.{Array}
 use Rattle.remora_driver.specs.declared.status.Status.{Status}
 use Rattle.remora_driver.specs.declared.status.Status.TheVariants as status
-use Rattle.remora_driver.specs.Due.{Answer, refused, shown, trapped, stuck, still_running}
+use Rattle.remora_driver.specs.Due.{Answer, refused, data_refused, shown, trapped, stuck, still_running}
 
 abbrev status_of : Answer → Status
 status_of a = a.status
@@ -22,3 +22,6 @@ stuck_or_refused kind number at e = let s : ◌≡◌ {A = Status} (status.Stuck
 
 pub stuck_or_running : (kind : StuckKind) → stuck kind ≡ still_running → ⊥
 stuck_or_running kind e = let s : ◌≡◌ {A = Status} (status.Stuck kind) status.StillRunning = ap status_of e in absurd (cc)
+
+pub stuck_or_unfit : (kind : StuckKind) (number : ℕ) (at : Span) → stuck kind ≡ data_refused number at → ⊥
+stuck_or_unfit kind number at e = let s : ◌≡◌ {A = Status} (status.Stuck kind) (status.DataRefused number at) = ap status_of e in absurd (cc)

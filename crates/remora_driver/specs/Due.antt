@@ -1,10 +1,11 @@
 -- The answers that are due.
-use Rattle.std.specs.Prelude.{◌≡◌, ℕ, ◌<◌, ◌≤◌, List, [], length, Some}
+use Rattle.std.specs.Prelude.{◌≡◌, ◌≢◌, ℕ, ◌<◌, ◌≤◌, List, [], length, Some}
 use Rattle.core_syntax.specs.declared.span.Span.{Span}
 use Rattle.core_syntax.specs.declared.errors.StuckKind.{StuckKind}
 use Rattle.core_syntax.specs.declared.errors.TrapKind.{TrapKind}
 use Rattle.core_syntax.specs.Blame.{Blames}
-use Rattle.core_syntax.specs.Data.{array_of_value}
+use Rattle.core_syntax.specs.Data.{Data, array_of_value}
+use Rattle.core_syntax.specs.Lists.{each}
 use Rattle.core_syntax.specs.Notes.{NodeNote, ProgramNotesAre}
 use Rattle.core_syntax.specs.Start.{Reaches, SourceTraps, SourceGoes}
 use Rattle.core_syntax.specs.Syntax.{Ty, Program}
@@ -16,6 +17,7 @@ use Rattle.array_values.specs.declared.value.Value.{Value}
 use Rattle.machine_table.specs.Codes.{Code}
 use Rattle.machine_table.specs.Ends.{Ends}
 use Rattle.machine_table.specs.Machine.{Outcome, Done, Trap, Stuck}
+use Rattle.machine_table.specs.ParamTypes.{type_of}
 use Rattle.machine_table.specs.ValueRules.{value_rules}
 use Rattle.code_text.specs.Blame.{CodeText, Blame}
 use Rattle.code_text.specs.declared.refusal.CodeKind.{CodeKind}
@@ -30,10 +32,12 @@ use Rattle.remora_driver.specs.declared.status.Status.{Status}
 use Rattle.remora_driver.specs.declared.status.Status.TheVariants as status
 use Rattle.remora_driver.specs.Jobs.{longest_source, longest_code, IsJob, IsCall}
 use Rattle.remora_driver.specs.Places.{bytes_behind}
-use Rattle.remora_driver.specs.Programs.{IsSource, IsAcceptedSource, IsProgram}
+use Rattle.remora_driver.specs.Programs.{IsSource, IsAcceptedSource, IsProgram, input_types}
 use Rattle.remora_driver.specs.Reducible.{IsReducible}
+use Rattle.value_text.specs.DataFits.{Fits}
+use Rattle.value_text.specs.DataTexts.{DataBlame}
 use Rattle.value_text.specs.ValueText.{array_text}
-use Rattle.remora_driver.specs.Texts.{line, accepted_text, refusal_text, trap_text, stuck_text, still_running_text, usage_text}
+use Rattle.remora_driver.specs.Texts.{line, accepted_text, refusal_text, data_refusal_text, trap_text, stuck_text, still_running_text, usage_text}
 
 -- a status, and the text that is written with it
 pub record Answer : Type 0 where
@@ -72,13 +76,29 @@ stuck kind = record { status = status.Stuck kind; text = line (stuck_text kind) 
 abbrev pub still_running : Answer
 still_running = record { status = status.StillRunning; text = line still_running_text }
 
+-- a refusal of data and its line
+abbrev pub data_refused : ℕ → Span → Answer
+data_refused number at = record { status = status.DataRefused number at; text = line (data_refusal_text number at) }
+
 -- the empty place at the start of a text
 abbrev pub front : Span
 front = record { from = 0; to = 0; line = 1; col = 1 }
 
+-- ---- data
+
+-- what is due on data for inputs of these types: why it is refused, or what is due on the values that it is the text of
+pub data IsDueOn (types : List Ty) (given : List ℕ) (IsEnd : List Data → Answer → Type 0) (a : Answer) : Type 0 where
+  unfit : (number : ℕ) (at : Span) → DataBlame given types (number, at) → a ≡ data_refused number at → IsDueOn types given IsEnd a
+  fitting : (xs : List Data) → Fits given types xs → IsEnd xs a → IsDueOn types given IsEnd a
+
+-- what is due on the input, where it is taken as data, and what is due on no data, where it isn't
+pub data IsDueBy (Taken : Type 0) (Due : List ℕ → Answer → Type 0) (input : List ℕ) (a : Answer) : Type 0 where
+  with_data : Taken → Due input a → IsDueBy Taken Due input a
+  without : ¬ Taken → Due [] a → IsDueBy Taken Due input a
+
 -- ---- runs of code
 
--- the code on these inputs hasn't ended with any of its first steps, of which there are so many
+-- the code on these arrays hasn't ended with any of its first steps, of which there are so many
 abbrev pub StillRuns : Code → List Array → ℕ → Type 0
 StillRuns code inputs budget = (n : ℕ) (o : Outcome Value) → n ≤ budget → ¬ (Ends value_rules code inputs n o)
 
@@ -88,15 +108,18 @@ outcome_answer (Done a) = shown a
 outcome_answer (Trap kind) = trapped kind
 outcome_answer (Stuck kind) = stuck kind
 
--- what is due for a code without inputs of which so many steps may be done
-pub data IsCodeDue (code : Code) (budget : ℕ) (a : Answer) : Type 0 where
-  ends : (n : ℕ) (o : Outcome Value) → n ≤ budget → Ends value_rules code [] n o → a ≡ outcome_answer o → IsCodeDue code budget a
-  goes_on : StillRuns code [] budget → a ≡ still_running → IsCodeDue code budget a
+-- how at most so many steps of a code end, on arrays with these values
+pub data HasCodeEnd (code : Code) (budget : ℕ) (xs : List Data) (a : Answer) : Type 0 where
+  ends : (inputs : List Array) (n : ℕ) (o : Outcome Value) → each array_data inputs ≡ xs → n ≤ budget → Ends value_rules code inputs n o → a ≡ outcome_answer o → HasCodeEnd code budget xs a
+  goes_on : (inputs : List Array) → each array_data inputs ≡ xs → StillRuns code inputs budget → a ≡ still_running → HasCodeEnd code budget xs a
 
--- what is due for a code that is to be executed: it has inputs, and isn't executed today, or it ends so
-pub data IsExecutionDue (code : Code) (budget : ℕ) (a : Answer) : Type 0 where
-  not_executed : ¬ (code.params ≡ []) → a ≡ refused 90 front → IsExecutionDue code budget a
-  is_executed : code.params ≡ [] → IsCodeDue code budget a → IsExecutionDue code budget a
+-- the types of a code's inputs
+abbrev pub types_of_inputs : Code → List Ty
+types_of_inputs code = each type_of code.params
+
+-- what is due for a code on these data, of which so many steps may be done
+abbrev pub IsCodeDue : Code → List ℕ → ℕ → Answer → Type 0
+IsCodeDue code given budget a = IsDueOn (types_of_inputs code) given (HasCodeEnd code budget) a
 
 -- ---- programs
 
@@ -115,38 +138,33 @@ pub data IsCheckDue (bytes : List ℕ) (a : Answer) : Type 0 where
   check_refused : (number : ℕ) (at : Span) → IsRefused bytes number at → a ≡ refused number at → IsCheckDue bytes a
   checks : (P : Program) (t : Ty) → IsAcceptedSource bytes P → ∥ Has (body_context P) P.body t ∥₁ → a ≡ accepted t → IsCheckDue bytes a
 
--- why a program source has no code today: it is refused, or its program is accepted and has inputs
-pub data HasNoCode (bytes : List ℕ) (number : ℕ) (at : Span) : Type 0 where
-  not_accepted : IsRefused bytes number at → HasNoCode bytes number at
-  has_inputs : (P : Program) → IsAcceptedSource bytes P → ¬ (P.inputs ≡ []) → number ≡ 90 → at ≡ front → HasNoCode bytes number at
-
--- what is due for a program source of which the code is built: the text of the code
+-- what is due for a program source of which the code is built: its refusal, or the text of the code
 pub data IsBuildDue (bytes : List ℕ) (a : Answer) : Type 0 where
-  build_refused : (number : ℕ) (at : Span) → HasNoCode bytes number at → a ≡ refused number at → IsBuildDue bytes a
+  build_refused : (number : ℕ) (at : Span) → IsRefused bytes number at → a ≡ refused number at → IsBuildDue bytes a
   builds : (P : Program) (notes : List NodeNote) → IsProgram bytes P notes → a.status ≡ status.Ok → CodeText (code_of_program P notes) a.text → IsBuildDue bytes a
 
--- what is due for a program source that is run: how its code ends
-pub data IsRunDue (bytes : List ℕ) (budget : ℕ) (a : Answer) : Type 0 where
-  run_refused : (number : ℕ) (at : Span) → HasNoCode bytes number at → a ≡ refused number at → IsRunDue bytes budget a
-  runs : (P : Program) (notes : List NodeNote) → IsProgram bytes P notes → IsCodeDue (code_of_program P notes) budget a → IsRunDue bytes budget a
+-- what is due for a program source that is run on data: its refusal, or how its code ends
+pub data IsRunDue (bytes given : List ℕ) (budget : ℕ) (a : Answer) : Type 0 where
+  run_refused : (number : ℕ) (at : Span) → IsRefused bytes number at → a ≡ refused number at → IsRunDue bytes given budget a
+  runs : (P : Program) (notes : List NodeNote) → IsProgram bytes P notes → IsCodeDue (code_of_program P notes) given budget a → IsRunDue bytes given budget a
 
 -- ---- reduction
 
--- how at most so many steps of a program's body end, where these are the notes of its nodes: a value is reached, a step traps, or the run goes on
-pub data HasEnd (P : Program) (notes : List NodeNote) (budget : ℕ) (a : Answer) : Type 0 where
-  reaches : (k : ℕ) (v : TypedTerm) (x : Array) → k ≤ budget → Reaches P notes [] k v → array_data x ≡ array_of_value typed_rules v → a ≡ shown x → HasEnd P notes budget a
-  traps : (k : ℕ) (kind : TrapKind) → k ≤ budget → SourceTraps P notes [] k kind → a ≡ trapped kind → HasEnd P notes budget a
-  keeps_going : SourceGoes P notes [] budget → a ≡ still_running → HasEnd P notes budget a
+-- how at most so many steps of a program's body end, with these values in the place of its inputs, where these are the notes of its nodes: a value is reached, a step traps, or the run goes on
+pub data HasEnd (P : Program) (notes : List NodeNote) (budget : ℕ) (xs : List Data) (a : Answer) : Type 0 where
+  reaches : (k : ℕ) (v : TypedTerm) (x : Array) → k ≤ budget → Reaches P notes xs k v → array_data x ≡ array_of_value typed_rules v → a ≡ shown x → HasEnd P notes budget xs a
+  traps : (k : ℕ) (kind : TrapKind) → k ≤ budget → SourceTraps P notes xs k kind → a ≡ trapped kind → HasEnd P notes budget xs a
+  keeps_going : SourceGoes P notes xs budget → a ≡ still_running → HasEnd P notes budget xs a
 
--- what is due for an accepted program that is to be reduced: it isn't reduced today, or its steps end so
-pub data IsReductionDue (P : Program) (notes : List NodeNote) (budget : ℕ) (a : Answer) : Type 0 where
-  not_reduced : ¬ (IsReducible P) → a ≡ refused 90 front → IsReductionDue P notes budget a
-  is_reduced : IsReducible P → HasEnd P notes budget a → IsReductionDue P notes budget a
+-- what is due for an accepted program that is to be reduced on these data: it isn't reduced today, or its steps end so
+pub data IsReductionDue (P : Program) (notes : List NodeNote) (given : List ℕ) (budget : ℕ) (a : Answer) : Type 0 where
+  not_reduced : ¬ (IsReducible P) → a ≡ refused 90 front → IsReductionDue P notes given budget a
+  is_reduced : IsReducible P → IsDueOn (input_types P) given (HasEnd P notes budget) a → IsReductionDue P notes given budget a
 
--- what is due for a program source that is reduced (its program has one list of notes at most, so they are those of `IsProgram`)
-pub data IsReduceDue (bytes : List ℕ) (budget : ℕ) (a : Answer) : Type 0 where
-  reduce_refused : (number : ℕ) (at : Span) → IsRefused bytes number at → a ≡ refused number at → IsReduceDue bytes budget a
-  reduces : (P : Program) (notes : List NodeNote) → IsAcceptedSource bytes P → ∥ ProgramNotesAre P notes ∥₁ → IsReductionDue P notes budget a → IsReduceDue bytes budget a
+-- what is due for a program source that is reduced on data (its program has one list of notes at most, so they are those of `IsProgram`)
+pub data IsReduceDue (bytes given : List ℕ) (budget : ℕ) (a : Answer) : Type 0 where
+  reduce_refused : (number : ℕ) (at : Span) → IsRefused bytes number at → a ≡ refused number at → IsReduceDue bytes given budget a
+  reduces : (P : Program) (notes : List NodeNote) → IsAcceptedSource bytes P → ∥ ProgramNotesAre P notes ∥₁ → IsReductionDue P notes given budget a → IsReduceDue bytes given budget a
 
 -- ---- code texts
 
@@ -160,23 +178,31 @@ abbrev pub text_place : CodeKind → ℕ → List ℕ → Span
 text_place Byte at bytes = bytes_behind at 1 bytes
 text_place End at bytes = bytes_behind at 0 bytes
 
--- what is due for a code text, in this order
-pub data IsExecDue (bytes : List ℕ) (budget : ℕ) (a : Answer) : Type 0 where
-  text_too_long : longest_code < length bytes → a ≡ refused 31 front → IsExecDue bytes budget a
-  no_code : (kind : CodeKind) (at : ℕ) → length bytes ≤ longest_code → Blame kind bytes at → a ≡ refused (text_number kind) (text_place kind at bytes) → IsExecDue bytes budget a
-  executes : (c : Code) → length bytes ≤ longest_code → CodeText c bytes → IsExecutionDue c budget a → IsExecDue bytes budget a
+-- what is due for a code text that is executed on data, in this order
+pub data IsExecDue (bytes given : List ℕ) (budget : ℕ) (a : Answer) : Type 0 where
+  text_too_long : longest_code < length bytes → a ≡ refused 31 front → IsExecDue bytes given budget a
+  no_code : (kind : CodeKind) (at : ℕ) → length bytes ≤ longest_code → Blame kind bytes at → a ≡ refused (text_number kind) (text_place kind at bytes) → IsExecDue bytes given budget a
+  executes : (c : Code) → length bytes ≤ longest_code → CodeText c bytes → IsCodeDue c given budget a → IsExecDue bytes given budget a
 
 -- ---- calls
 
--- what is due for a job on these bytes
-abbrev pub IsJobDue : Job → List ℕ → Answer → Type 0
-IsJobDue Check bytes a = IsCheckDue bytes a
-IsJobDue Build bytes a = IsBuildDue bytes a
-IsJobDue (Run budget) bytes a = IsRunDue bytes budget a
-IsJobDue (Exec budget) bytes a = IsExecDue bytes budget a
-IsJobDue (Reduce budget) bytes a = IsReduceDue bytes budget a
+-- what is due for a job on these bytes and data
+abbrev pub IsJobDue : Job → List ℕ → List ℕ → Answer → Type 0
+IsJobDue Check bytes given a = IsCheckDue bytes a
+IsJobDue Build bytes given a = IsBuildDue bytes a
+IsJobDue (Run budget) bytes given a = IsRunDue bytes given budget a
+IsJobDue (Exec budget) bytes given a = IsExecDue bytes given budget a
+IsJobDue (Reduce budget) bytes given a = IsReduceDue bytes given budget a
 
--- what is due for these words and bytes
-pub data IsDue (words : List (List ℕ)) (bytes : List ℕ) (a : Answer) : Type 0 where
-  no_job : ¬ (IsCall words) → a ≡ usage → IsDue words bytes a
-  does : (job : Job) → IsJob words job → IsJobDue job bytes a → IsDue words bytes a
+-- the job takes data: it runs, executes or reduces, and these bytes are those of a program or a code that has inputs, and is run, executed or reduced today
+abbrev pub TakesData : Job → List ℕ → Type 0
+TakesData Check bytes = ⊥
+TakesData Build bytes = ⊥
+TakesData (Run budget) bytes = (P : Program) × IsAcceptedSource bytes P × (P.inputs ≢ [])
+TakesData (Exec budget) bytes = (c : Code) × (length bytes ≤ longest_code) × CodeText c bytes × (c.params ≢ [])
+TakesData (Reduce budget) bytes = (P : Program) × IsAcceptedSource bytes P × IsReducible P × (P.inputs ≢ [])
+
+-- what is due for these words, the bytes of the program source and those of the input, which are data where the job takes some
+pub data IsDue (words : List (List ℕ)) (bytes input : List ℕ) (a : Answer) : Type 0 where
+  no_job : ¬ (IsCall words) → a ≡ usage → IsDue words bytes input a
+  does : (job : Job) → IsJob words job → IsDueBy (TakesData job bytes) (IsJobDue job bytes) input a → IsDue words bytes input a

@@ -47,7 +47,7 @@ longest_source = 1048576
 abbrev pub longest_code : ℕ
 longest_code = 16777216
 
--- the most bytes of what a job reads
+-- the most bytes of what a job reads of its program source
 abbrev pub longest : Job → ℕ
 longest Check = longest_source
 longest Build = longest_source

@@ -9,5 +9,6 @@ pub mod Programs
 pub mod Reducible
 pub mod Reductions
 pub mod Sources
+pub mod Tasks
 pub mod Texts
 pub mod Top

@@ -1,4 +1,4 @@
--- The programs that are reduced today: no inputs, and no primitives but those of integers, truth values and characters, and `select`.
+-- The programs that are reduced today: no primitives but those of integers, truth values and characters, and `select`.
 use Rattle.std.specs.Prelude.{◌≡◌, Bool, true, not, ◌&&◌, ◌||◌, List, [], ◌∷◌}
 use Rattle.core_syntax.specs.declared.primitive.Primitive.{Primitive}
 use Rattle.core_syntax.specs.declared.primitive.Primitive.TheVariants as primitive
@@ -52,6 +52,5 @@ are_plain_defs (d ∷ ds) = is_plain_expr d.value && are_plain_defs ds
 
 -- a program that is reduced today
 pub record IsReducible (P : Program) : Type 0 where
-  pub inputs : P.inputs ≡ []
   pub defs : are_plain_defs P.defs ≡ true
   pub body : is_plain_expr P.body ≡ true

@@ -1,7 +1,8 @@
 -- What reading a program source says, and how an answer of the code is seen.
-use Rattle.std.specs.Prelude.{◌≡◌, ℕ, List, [], Result, Ok, Err, ⊤}
+use Rattle.std.specs.Prelude.{◌≡◌, ℕ, ◌<◌, ◌≤◌, List, length, Result, Ok, Err, ⊤}
 use Rattle.core_syntax.specs.declared.checked.Checked.{Checked}
 use Rattle.core_syntax.specs.declared.program.Program.{Program}
+use Rattle.core_syntax.specs.declared.span.Span.{Span}
 use Rattle.core_syntax.specs.Blame.{Blames}
 use Rattle.core_syntax.specs.Lists.{each}
 use Rattle.core_syntax.specs.Literals.{LiteralsFit}
@@ -14,11 +15,15 @@ use Rattle.machine.specs.declared.running.Outcome.{Outcome}
 use Rattle.machine.specs.declared.running.Outcome.TheVariants as outcome
 use Rattle.lowering.specs.Laws.{code_of_program}
 use Rattle.machine_table.specs.Codes.{Code}
+use Rattle.code_text.specs.Blame.{Blame, CodeText}
+use Rattle.code_text.specs.declared.refusal.CodeKind.{CodeKind}
 use Rattle.remora_driver.specs.declared.reply.Reply.{Reply}
 use Rattle.remora_driver.specs.declared.errors.SourceRefusal.{SourceRefusal}
 use Rattle.remora_driver.specs.declared.errors.SourceRefusal.TheVariants as no_code
-use Rattle.remora_driver.specs.Due.{Answer, front, IsRefused, HasNoCode, shown, trapped, stuck, still_running}
+use Rattle.remora_driver.specs.Due.{Answer, front, IsRefused, text_number, text_place, shown, trapped, stuck, still_running}
+use Rattle.remora_driver.specs.Jobs.{longest_code}
 use Rattle.remora_driver.specs.Programs.{IsSource, IsAcceptedSource, IsProgram}
+use Rattle.remora_driver.specs.Reducible.{IsReducible}
 
 -- the program that the forms mean, or why they mean none, or there was no memory
 abbrev pub Resolves : Forms → Result Program SourceRefusal → Type 0
@@ -44,11 +49,10 @@ ChecksSource bytes (Ok c) = IsAcceptedSource bytes (program_of c.program)
 ChecksSource bytes (Err (no_code.Refused number at)) = IsRefused bytes number at
 ChecksSource bytes (Err no_code.Memory) = ⊤
 
--- the code of a checked program without inputs, or it has inputs, or there was no memory
-abbrev pub CompilesChecked : Checked → Result Code SourceRefusal → Type 0
-CompilesChecked c (Ok code) = ((program_of c.program).inputs ≡ []) × LiteralsFit (program_of c.program) × (code ≡ code_of_program (program_of c.program) (each note_of c.notes))
-CompilesChecked c (Err (no_code.Refused number at)) = ¬ ((program_of c.program).inputs ≡ []) × (number ≡ 90) × (at ≡ front)
-CompilesChecked c (Err no_code.Memory) = ⊤
+-- the code of a checked program, whose literals are those that a text can hold
+pub record IsCodeOf (c : Checked) (code : Code) : Type 0 where
+  pub literals : LiteralsFit (program_of c.program)
+  pub compiled : code ≡ code_of_program (program_of c.program) (each note_of c.notes)
 
 -- this is the code of the program that the text means
 pub record IsCompiled (bytes : List ℕ) (code : Code) : Type 0 where
@@ -57,11 +61,33 @@ pub record IsCompiled (bytes : List ℕ) (code : Code) : Type 0 where
   pub runs : IsProgram bytes program notes
   pub compiled : code ≡ code_of_program program notes
 
--- the code of the program, or why the source has none, or there was no memory
+-- the code of the program, or why the source is refused, or there was no memory
 abbrev pub Compiles : List ℕ → Result Code SourceRefusal → Type 0
 Compiles bytes (Ok code) = IsCompiled bytes code
-Compiles bytes (Err (no_code.Refused number at)) = HasNoCode bytes number at
+Compiles bytes (Err (no_code.Refused number at)) = IsRefused bytes number at
 Compiles bytes (Err no_code.Memory) = ⊤
+
+-- why bytes are no text of a code, in this order
+pub data IsNoCode (bytes : List ℕ) (number : ℕ) (at : Span) : Type 0 where
+  too_long : longest_code < length bytes → number ≡ 31 → at ≡ front → IsNoCode bytes number at
+  blamed : (kind : CodeKind) (place : ℕ) → length bytes ≤ longest_code → Blame kind bytes place → number ≡ text_number kind → at ≡ text_place kind place bytes → IsNoCode bytes number at
+
+-- why a source isn't reduced today: it is refused, or its program is accepted and isn't one of those that are
+pub data NotReduced (bytes : List ℕ) (number : ℕ) (at : Span) : Type 0 where
+  not_accepted : IsRefused bytes number at → NotReduced bytes number at
+  not_yet : (c : Checked) → IsAcceptedSource bytes (program_of c.program) → ¬ (IsReducible (program_of c.program)) → number ≡ 90 → at ≡ front → NotReduced bytes number at
+
+-- the code with this text, or why there is none, or there was no memory
+abbrev pub ReadsCode : List ℕ → Result Code SourceRefusal → Type 0
+ReadsCode bytes (Ok code) = (length bytes ≤ longest_code) × CodeText code bytes
+ReadsCode bytes (Err (no_code.Refused number at)) = IsNoCode bytes number at
+ReadsCode bytes (Err no_code.Memory) = ⊤
+
+-- the program that the text means, checked, which is reduced today, or why the source isn't reduced, or there was no memory
+abbrev pub ChecksReducible : List ℕ → Result Checked SourceRefusal → Type 0
+ChecksReducible bytes (Ok c) = IsAcceptedSource bytes (program_of c.program) × IsReducible (program_of c.program)
+ChecksReducible bytes (Err (no_code.Refused number at)) = NotReduced bytes number at
+ChecksReducible bytes (Err no_code.Memory) = ⊤
 
 -- the status and the bytes of a reply
 abbrev pub seen : Reply → Answer

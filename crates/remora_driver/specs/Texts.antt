@@ -21,6 +21,10 @@ accepted_text t = codes "ok " ++ ty_text (norm_ty t)
 abbrev pub refusal_text : ℕ → Span → List ℕ
 refusal_text number at = codes "refused " ++ (decimal number ++ (codes " " ++ (decimal at.line ++ (codes ":" ++ decimal at.col))))
 
+-- a refusal of data
+abbrev pub data_refusal_text : ℕ → Span → List ℕ
+data_refusal_text number at = codes "data " ++ refusal_text number at
+
 -- a trap
 abbrev pub trap_text : TrapKind → List ℕ
 trap_text Overflow = codes "trap overflow"

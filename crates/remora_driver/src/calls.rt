@@ -1,22 +1,15 @@
-// Calls on a source.
+// Calls on a source or a code text.
 ghost use Rattle.std.specs.Prelude.{◌≡◌, IfOk, IfErr};
 ghost use Rattle.code_text.specs.Blame.{CodeText};
-ghost use Rattle.core_syntax.specs.Wholes.{program_of};
-ghost use Rattle.remora_driver.specs.Due.{written, IsBuildDue};
-ghost use Rattle.remora_driver.specs.Calls.{RefusesBuild, RunsSource, ReducesChecked, ReducesSource, IsUnstuck, Tells, TellsDue};
-ghost use Rattle.remora_driver.specs.Reducible.{IsReducible};
-ghost use Rattle.remora_driver.specs.Reductions.{ended, EndsIn};
+ghost use Rattle.remora_driver.specs.Due.{written, IsBuildDue, IsRunDue, IsExecDue, IsReduceDue};
+ghost use Rattle.remora_driver.specs.Calls.{RefusesBuild, IsUnstuck, TellsDue};
 
-use crate::answer::{Answer, array_answer};
+use crate::answer::Answer;
 use crate::compiling::compile;
-use crate::data::no_data;
-use crate::errors::{DataRefusal, FRONT, NOT_BUILT, SourceRefusal};
-use crate::reducible::is_reducible;
-use crate::reducing::{Reduction, reduce_program};
-use crate::running::run_code;
-use crate::source::check_source;
+use crate::errors::SourceRefusal;
+use crate::task::{answer_on, exec_task, reduce_task, run_task};
 use code_text::print;
-use core_syntax::{Checked, Memory};
+use core_syntax::Memory;
 use machine_table::Code;
 use std::alloc::Global;
 
@@ -32,7 +25,7 @@ fn code_lines(alloc: Global, code: &Code) -> Result<Vec<u8>, SourceRefusal>
 }
 
 /// The text of the code of the program that a source means (docs/MACHINE.md, "Code text"). It refuses what `check_source`
-/// refuses, and then with 90 a program that has inputs. It answers `Memory` where there is none.
+/// refuses. It answers `Memory` where there is none.
 pub fn build(alloc: Global, source: &[u8]) -> Result<Vec<u8>, SourceRefusal>
     ensures text { IfOk result (λ text. IsBuildDue source.now (written text.items)) }
     ensures refused { IfErr result (λ e. RefusesBuild source.now e) }
@@ -43,71 +36,34 @@ pub fn build(alloc: Global, source: &[u8]) -> Result<Vec<u8>, SourceRefusal>
     }
 }
 
-/// What the code of the program that a source means comes to by at most `budget` steps of the machine, with these data
-/// (docs/LANGUAGE.md, "Calls"): the line of its value, a trap, or that it is still running. It refuses what `check_source`
-/// refuses, then with 90 a program that has inputs, and then data that is too long (44), isn't read as forms (40), or holds a
-/// value (41). It is never `Stuck`. It answers `Memory` where there is none.
+/// What the code of the program that a source means comes to by at most `budget` steps of the machine, on the arrays that the
+/// data `given` is the text of (docs/LANGUAGE.md, "Calls"): the line of its value, a trap, or that it is still running. It refuses
+/// what `check_source` refuses, and then data that doesn't fit the program's inputs, with 40 to 44 (docs/LANGUAGE.md, "Data"). It
+/// is never `Stuck`. It answers `Memory` where there is none.
 pub fn run_source(alloc: Global, source: &[u8], given: &[u8], budget: u64) -> Answer
-    ensures due { RunsSource source.now given.now budget result }
+    ensures due { TellsDue (IsRunDue source.now given.now budget) result }
     ensures unstuck { IsUnstuck result }
 {
-    match compile(alloc, source) {
-        Ok(code) => run_code(alloc, &code, given, budget),
-        Err(SourceRefusal::Refused { number, span }) => Answer::Refused { number, span },
-        Err(SourceRefusal::Memory) => Answer::Memory,
-    }
+    answer_on(alloc, &run_task(alloc, source, budget), given)
 }
 
-// The answer that shows how a reduction ends.
-fn end_answer(alloc: Global, end: &Reduction) -> Answer
-    ensures { Tells (ended end.now) result }
-{
-    match end {
-        Reduction::Value(array) => array_answer(alloc, array),
-        Reduction::Trap(kind) => Answer::Trap(*kind),
-        Reduction::Going => Answer::StillRunning,
-    }
-}
-
-// The answer of a checked program that is reduced today.
-fn reduction_answer(alloc: Global, checked: &Checked, budget: u64) -> Answer
-    requires { IsReducible (program_of checked.now.program) }
-    ensures { TellsDue (EndsIn checked.now budget) result }
-{
-    match reduce_program(alloc, checked, budget) {
-        Ok(end) => end_answer(alloc, &end),
-        Err(Memory) => Answer::Memory,
-    }
-}
-
-// The answer of a checked program with these data.
-fn reduce_checked(alloc: Global, checked: &Checked, given: &[u8], budget: u64) -> Answer
-    ensures { ReducesChecked checked.now given.now budget result }
-{
-    if !is_reducible(checked.program()) {
-        return Answer::Refused {
-            number: NOT_BUILT,
-            span: FRONT,
-        };
-    }
-    match no_data(alloc, given) {
-        Ok(()) => reduction_answer(alloc, checked, budget),
-        Err(DataRefusal::Refused { number, span }) => Answer::DataRefused { number, span },
-        Err(DataRefusal::Memory) => Answer::Memory,
-    }
-}
-
-/// What the program that a source means comes to by at most `budget` steps of reduction, with these data (docs/LANGUAGE.md,
-/// "Reduction"): the line of its value, a trap, or that it is still running. It refuses what `check_source` refuses, then with
-/// 90 a program that isn't reduced today, and then data that is too long (44), isn't read as forms (40), or holds a value (41).
-/// It is never `Stuck`. It answers `Memory` where there is none.
+/// What the program that a source means comes to by at most `budget` steps of reduction, on the values that the data `given` is the
+/// text of (docs/LANGUAGE.md, "Reduction"): the line of its value, a trap, or that it is still running. It refuses what
+/// `check_source` refuses, then with 90 a program that isn't reduced today, and then data that doesn't fit the program's inputs,
+/// with 40 to 44. It is never `Stuck`. It answers `Memory` where there is none.
 pub fn reduce_source(alloc: Global, source: &[u8], given: &[u8], budget: u64) -> Answer
-    ensures due { ReducesSource source.now given.now budget result }
+    ensures due { TellsDue (IsReduceDue source.now given.now budget) result }
     ensures unstuck { IsUnstuck result }
 {
-    match check_source(alloc, source) {
-        Ok(checked) => reduce_checked(alloc, &checked, given, budget),
-        Err(SourceRefusal::Refused { number, span }) => Answer::Refused { number, span },
-        Err(SourceRefusal::Memory) => Answer::Memory,
-    }
+    answer_on(alloc, &reduce_task(alloc, source, budget), given)
+}
+
+/// What the code with this text comes to by at most `budget` steps of the machine, on the arrays that the data `given` is the text
+/// of (docs/MACHINE.md): the line of its value, a trap, where it is stuck, or that it is still running. It refuses with 31 a text
+/// that is too long, with 32 and 33 one that is no code's, and then data that doesn't fit the code's inputs, with 40 to 44. It
+/// answers `Memory` where there is none.
+pub fn exec(alloc: Global, code: &[u8], given: &[u8], budget: u64) -> Answer
+    ensures { TellsDue (IsExecDue code.now given.now budget) result }
+{
+    answer_on(alloc, &exec_task(alloc, code, budget), given)
 }

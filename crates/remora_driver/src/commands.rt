@@ -1,21 +1,30 @@
-// What the words ask for, done on the bytes of a source.
-ghost use Rattle.std.specs.Prelude.{◌≡◌, ◌≤◌, Some, length, IfOk};
+// What the words ask for, done on the bytes of a source and on data.
+ghost use Rattle.std.specs.Prelude.{◌≡◌, Some, Err, IfOk};
 ghost use Rattle.core_syntax.specs.Refine.{ty_of};
-ghost use Rattle.remora_driver.specs.Calls.{answer_of, TakesData};
-ghost use Rattle.remora_driver.specs.Due.{accepted, IsCheckDue, IsBuildDue, IsJobDue};
-ghost use Rattle.remora_driver.specs.Jobs.{longest};
+ghost use Rattle.remora_driver.specs.Calls.{answer_of};
+ghost use Rattle.remora_driver.specs.Due.{accepted, IsCheckDue, IsBuildDue};
 ghost use Rattle.remora_driver.specs.Sources.{seen};
+ghost use Rattle.remora_driver.specs.Tasks.{AnsweredBy, IsBegun, IsTaskDue, Opens};
 
 use crate::answer::Answer;
-use crate::calls::{build, reduce_source, run_source};
+use crate::calls::build;
 use crate::errors::SourceRefusal;
-use crate::executing::exec;
 use crate::job::Job;
-use crate::reply::{Reply, refusal, still_running, stuck, trap, type_answer};
+use crate::reply::{Reply, data_refusal, refusal, still_running, stuck, trap, type_answer};
 use crate::source::check_source;
 use crate::status::Status;
+use crate::task::{Task, exec_task, reduce_task, run_task};
 use core_syntax::{Checked, Memory};
 use std::alloc::Global;
+
+/// A job of which the source or the code text was read.
+#[derive(Drop)]
+pub enum Begun {
+    /// It is answered, without data.
+    Answered(Reply),
+    /// It is to be done on data.
+    Open(Task),
+}
 
 // The answer that shows the type of a checked program's body.
 fn checked_answer(alloc: Global, checked: &Checked) -> Result<Reply, Memory>
@@ -47,9 +56,8 @@ fn built(alloc: Global, source: &[u8]) -> Result<Reply, Memory>
     }
 }
 
-// The status and the text of an answer to a call that was given no data.
+// The status and the text of an answer.
 fn replied(alloc: Global, answer: Answer) -> Result<Reply, Memory>
-    requires { TakesData answer }
     ensures { IfOk result (λ a. answer_of answer ≡ Some (seen a)) }
 {
     match answer {
@@ -59,23 +67,59 @@ fn replied(alloc: Global, answer: Answer) -> Result<Reply, Memory>
         }),
         Answer::Trap(kind) => trap(alloc, kind),
         Answer::Refused { number, span } => refusal(alloc, number, span),
-        Answer::DataRefused { .. } => unreachable!(),
+        Answer::DataRefused { number, span } => data_refusal(alloc, number, span),
         Answer::Stuck(kind) => stuck(alloc, kind),
         Answer::StillRunning => still_running(alloc),
         Answer::Memory => Err(Memory),
     }
 }
 
-/// The answer to a job on these bytes, which are no more than the job takes.
-pub fn answer_to(alloc: Global, job: Job, bytes: &[u8]) -> Result<Reply, Memory>
-    requires { length bytes.now ≤ longest job }
-    ensures { IfOk result (λ a. IsJobDue job bytes.now (seen a)) }
+// A job that this answers without data.
+fn answered(reply: Result<Reply, Memory>) -> Result<Begun, Memory>
+    ensures { IfOk result (λ b. AnsweredBy reply b) }
+{
+    match reply {
+        Ok(reply) => Ok(Begun::Answered(reply)),
+        Err(memory) => Err(memory),
+    }
+}
+
+// A job of which this is the answer, since it has no task.
+fn unopened(alloc: Global, why: SourceRefusal) -> Result<Begun, Memory>
+    ensures { IfOk result (λ b. Opens (Err why) b) }
+{
+    match why {
+        SourceRefusal::Refused { number, span } => answered(refusal(alloc, number, span)),
+        SourceRefusal::Memory => Err(Memory),
+    }
+}
+
+// A job with this task, or with its refusal as the answer.
+fn opened(alloc: Global, task: Result<Task, SourceRefusal>) -> Result<Begun, Memory>
+    ensures { IfOk result (λ b. Opens task b) }
+{
+    match task {
+        Ok(task) => Ok(Begun::Open(task)),
+        Err(why) => unopened(alloc, why),
+    }
+}
+
+/// What a job on these bytes comes to before its data.
+pub fn begin(alloc: Global, job: Job, bytes: &[u8]) -> Result<Begun, Memory>
+    ensures { IfOk result (λ b. IsBegun job bytes.now b) }
 {
     match job {
-        Job::Check => check(alloc, bytes),
-        Job::Build => built(alloc, bytes),
-        Job::Run { budget } => replied(alloc, run_source(alloc, bytes, &[], budget)),
-        Job::Exec { budget } => replied(alloc, exec(alloc, bytes, &[], budget)),
-        Job::Reduce { budget } => replied(alloc, reduce_source(alloc, bytes, &[], budget)),
+        Job::Check => answered(check(alloc, bytes)),
+        Job::Build => answered(built(alloc, bytes)),
+        Job::Run { budget } => opened(alloc, run_task(alloc, bytes, budget)),
+        Job::Exec { budget } => opened(alloc, exec_task(alloc, bytes, budget)),
+        Job::Reduce { budget } => opened(alloc, reduce_task(alloc, bytes, budget)),
     }
+}
+
+/// The reply of a task on these data.
+pub fn finish(alloc: Global, task: &Task, given: &[u8]) -> Result<Reply, Memory>
+    ensures { IfOk result (λ a. IsTaskDue task.now given.now (seen a)) }
+{
+    replied(alloc, task.answer(alloc, given))
 }

@@ -9,28 +9,20 @@ pub const FRONT: Span = Span {
     col: 1,
 };
 
-/// The number of what is not built yet.
+/// The number of a program that is not reduced yet.
 pub const NOT_BUILT: u8 = 90;
 
 /// The number of a source that is too long.
 pub const TOO_LONG: u8 = 31;
+
+/// The number of data that is too long.
+pub const DATA_TOO_LONG: u8 = 44;
 
 /// Why a program source has no checked program or no code.
 #[derive(Clone, Copy, Debug, PartialEq, Eq, Error)]
 pub enum SourceRefusal {
     /// It is refused with this number at this place (docs/LANGUAGE.md, "Refusals").
     #[error("refused {number} {}:{}", .span.line, .span.col)]
-    Refused { number: u8, span: Span },
-    /// There was no memory.
-    #[error("no memory")]
-    Memory,
-}
-
-/// Why data is refused.
-#[derive(Clone, Copy, Debug, PartialEq, Eq, Error)]
-pub enum DataRefusal {
-    /// It is refused with this number at this place (docs/LANGUAGE.md, "Data").
-    #[error("data refused {number} {}:{}", .span.line, .span.col)]
     Refused { number: u8, span: Span },
     /// There was no memory.
     #[error("no memory")]

@@ -25,11 +25,14 @@ pub enum Job {
 /// The most bytes of a program source.
 pub const LONGEST_SOURCE: usize = 1 << 20;
 
+/// The most bytes of data.
+pub const LONGEST_DATA: usize = 1 << 20;
+
 /// The most bytes of a code text.
 pub const LONGEST_CODE: usize = 1 << 24;
 
 impl Job {
-    /// The most bytes that the job reads.
+    /// The most bytes that the job reads of its program source.
     pub fn longest(&self) -> usize
         ensures { result ≡ longest_of self.now }
     {

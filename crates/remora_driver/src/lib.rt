@@ -16,13 +16,13 @@ mod reply;
 mod running;
 mod source;
 mod status;
+mod task;
 mod texts;
 mod top;
 
 pub use answer::Answer;
-pub use calls::{build, reduce_source, run_source};
+pub use calls::{build, exec, reduce_source, run_source};
 pub use errors::SourceRefusal;
-pub use executing::exec;
 pub use laws::{due_means, one_answer, run_is_reduce};
 pub use source::check_source;
 pub use status::Status;

@@ -105,10 +105,10 @@ fn plain_defs(defs: &[Def]) -> bool
     true
 }
 
-/// Whether a program is reduced today (docs/LANGUAGE.md, "Programs that are reduced today"): it has no inputs, and no primitive
-/// with variables but `select`. It takes no memory.
+/// Whether a program is reduced today (docs/LANGUAGE.md, "Programs that are reduced today"): it has no primitive with variables
+/// but `select`. It takes no memory.
 pub fn is_reducible(program: &Program) -> bool
     ensures { IsTrue result ↔ IsReducible (program_of program.now) }
 {
-    program.inputs.is_empty() && plain_defs(program.defs.as_slice()) && plain_expr(&program.body)
+    plain_defs(program.defs.as_slice()) && plain_expr(&program.body)
 }

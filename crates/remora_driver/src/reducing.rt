@@ -1,9 +1,11 @@
 // Reduction of a checked program.
 ghost use Rattle.std.specs.Prelude.{IfOk};
+ghost use Rattle.core_syntax.specs.Data.{FitsValues};
+ghost use Rattle.core_syntax.specs.Lists.{each};
+ghost use Rattle.core_syntax.specs.Refine.{ty_of};
 ghost use Rattle.core_syntax.specs.RefineTerms.{term_of};
-ghost use Rattle.core_syntax.specs.Wholes.{program_of};
-ghost use Rattle.remora_driver.specs.Reducible.{IsReducible};
-ghost use Rattle.remora_driver.specs.Reductions.{ended, EndsIn, IsPrinted, IsStarted, IsValueOf, StandsAt};
+ghost use Rattle.array_values.specs.Data.{array_data};
+ghost use Rattle.remora_driver.specs.Reductions.{ended, EndsFrom, EndsIn, IsEndIn, IsEndOf, IsPrinted, IsValueOf, Prints, PrintsValues};
 
 use array_values::Array;
 use core_syntax::{Checked, Memory, TrapKind};
@@ -31,60 +33,55 @@ fn value_end(alloc: Global, closed: &Closed) -> Result<Reduction, Memory>
     Ok(Reduction::Value(array))
 }
 
-// The end of a run that stands there after its steps. The program's literals are read, since data that is reached fits its type
-// where they are those of a text.
-fn end(alloc: Global, checked: &Checked, budget: u64, next: &Next) -> Result<Reduction, Memory>
-    requires reducible { IsReducible (program_of checked.now.program) }
-    requires stands { StandsAt checked.now budget next.now }
-    ensures { IfOk result (λ end. EndsIn checked.now budget (ended end)) }
+// The end of a run that stands there after its steps.
+fn end(alloc: Global, next: &Next) -> Result<Reduction, Memory>
+    requires { Prints next.now }
+    ensures { IfOk result (λ end. IsEndOf next.now end) }
 {
     match next {
-        Next::Value(closed) => {
-            read_literals(checked.program());
-            value_end(alloc, closed)
-        }
+        Next::Value(closed) => value_end(alloc, closed),
         Next::Trap(kind) => Ok(Reduction::Trap(*kind)),
         Next::Goes(_) => Ok(Reduction::Going),
     }
 }
 
 // The same of a run for whose steps there may have been no memory.
-fn end_of(
-    alloc: Global,
-    checked: &Checked,
-    budget: u64,
-    next: &Result<Next, Memory>,
-) -> Result<Reduction, Memory>
-    requires reducible { IsReducible (program_of checked.now.program) }
-    requires stands { IfOk next.now (λ n. StandsAt checked.now budget n) }
-    ensures { IfOk result (λ end. EndsIn checked.now budget (ended end)) }
+fn end_of(alloc: Global, next: &Result<Next, Memory>) -> Result<Reduction, Memory>
+    requires { IfOk next.now (λ n. Prints n) }
+    ensures { IfOk result (λ end. IsEndIn next.now end) }
 {
     match next {
-        Ok(next) => end(alloc, checked, budget, next),
+        Ok(next) => end(alloc, next),
         Err(_) => Err(Memory),
     }
 }
 
-// The end of at most so many steps from a program's start.
-fn run(alloc: Global, checked: &Checked, budget: u64, closed: Closed) -> Result<Reduction, Memory>
-    requires reducible { IsReducible (program_of checked.now.program) }
-    requires started { IsStarted checked.now closed }
-    ensures { IfOk result (λ end. EndsIn checked.now budget (ended end)) }
+// The end of at most so many steps from a closed term.
+fn run(alloc: Global, closed: Closed, budget: u64) -> Result<Reduction, Memory>
+    requires { PrintsValues closed }
+    ensures { IfOk result (λ end. EndsFrom closed budget end) }
 {
     let next = reduce(alloc, closed, budget);
-    let end = end_of(alloc, checked, budget, &next);
+    let end = end_of(alloc, &next);
     drop(next);
     end
 }
 
-/// How at most so many steps of a checked program end that is reduced today (docs/LANGUAGE.md, "Reduction"). It answers `Memory`
-/// where there is none.
-pub fn reduce_program(alloc: Global, checked: &Checked, budget: u64) -> Result<Reduction, Memory>
-    requires { IsReducible (program_of checked.now.program) }
-    ensures { IfOk result (λ end. EndsIn checked.now budget (ended end)) }
+/// How at most so many steps of a checked program end that is reduced today, on arrays that fit its inputs (docs/LANGUAGE.md,
+/// "Reduction"). Its literals are read, since data that is reached fits its type where they are those of a text. It answers
+/// `Memory` where there is none.
+pub fn reduce_program(
+    alloc: Global,
+    checked: &Checked,
+    inputs: &[Array],
+    budget: u64,
+) -> Result<Reduction, Memory>
+    requires { FitsValues (each ty_of checked.now.inputs) (each array_data inputs.now) }
+    ensures { IfOk result (λ end. EndsIn checked.now budget (each array_data inputs.now) (ended end)) }
 {
-    match start(alloc, checked, &[]) {
-        Ok(closed) => run(alloc, checked, budget, closed),
+    read_literals(checked.program());
+    match start(alloc, checked, inputs) {
+        Ok(closed) => run(alloc, closed, budget),
         Err(memory) => Err(memory),
     }
 }

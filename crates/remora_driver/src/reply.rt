@@ -2,13 +2,14 @@
 ghost use Rattle.std.specs.Prelude.{◌≡◌, IfOk, string_bytes};
 ghost use Rattle.core_syntax.specs.declared.span.Span.{Span};
 ghost use Rattle.core_syntax.specs.Refine.{ty_of};
-ghost use Rattle.remora_driver.specs.Due.{refused, trapped, stuck as stuck_answer, still_running as still_running_answer, shown, accepted, usage, front};
+ghost use Rattle.remora_driver.specs.Due.{refused, data_refused, trapped, stuck as stuck_answer, still_running as still_running_answer, shown, accepted, usage, front};
 ghost use Rattle.remora_driver.specs.Sources.{seen};
 
-use crate::errors::{FRONT, TOO_LONG};
+use crate::errors::{DATA_TOO_LONG, FRONT, TOO_LONG};
 use crate::status::Status;
 use crate::texts::{
-    array_line, refusal_line, still_running_line, stuck_line, trap_line, type_line, usage_line,
+    array_line, data_refusal_line, refusal_line, still_running_line, stuck_line, trap_line,
+    type_line, usage_line,
 };
 use array_values::Array;
 use core_syntax::{Memory, Span, StuckKind, TrapKind, Ty};
@@ -38,6 +39,16 @@ pub fn refusal(alloc: Global, number: u8, span: Span) -> Result<Reply, Memory>
     Ok(with_line(
         Status::Refused { number, span },
         refusal_line(alloc, number, span)?,
+    ))
+}
+
+/// The answer to data that is refused with this number at this place.
+pub fn data_refusal(alloc: Global, number: u8, span: Span) -> Result<Reply, Memory>
+    ensures { IfOk result (λ a. seen a ≡ data_refused number span) }
+{
+    Ok(with_line(
+        Status::DataRefused { number, span },
+        data_refusal_line(alloc, number, span)?,
     ))
 }
 
@@ -96,4 +107,11 @@ pub fn too_long(alloc: Global) -> Result<Reply, Memory>
     ensures { IfOk result (λ a. seen a ≡ refused 31 front) }
 {
     refusal(alloc, TOO_LONG, FRONT)
+}
+
+/// The answer to data that is longer than the limit.
+pub fn data_too_long(alloc: Global) -> Result<Reply, Memory>
+    ensures { IfOk result (λ a. seen a ≡ data_refused 44 front) }
+{
+    data_refusal(alloc, DATA_TOO_LONG, FRONT)
 }

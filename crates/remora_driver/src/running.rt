@@ -1,24 +1,26 @@
-// Runs of a code without inputs.
-ghost use Rattle.std.specs.Prelude.{◌≡◌, ℕ, [], IfOk};
+// Runs of a code.
+ghost use Rattle.std.specs.Prelude.{◌≡◌, ℕ, length, IfOk};
+ghost use Rattle.core_syntax.specs.Lists.{each};
+ghost use Rattle.array_values.specs.Data.{array_data};
 ghost use Rattle.machine.specs.Answers.{Answers};
-ghost use Rattle.remora_driver.specs.Calls.{RunsCode, Tells, TellsDue};
-ghost use Rattle.remora_driver.specs.Due.{IsCodeDue};
+ghost use Rattle.remora_driver.specs.Calls.{Tells, TellsDue};
+ghost use Rattle.remora_driver.specs.Due.{HasCodeEnd, IsCodeDue};
 ghost use Rattle.remora_driver.specs.Sources.{told};
 
 use crate::answer::{Answer, array_answer};
-use crate::data::no_data;
-use crate::errors::DataRefusal;
+use array_values::Array;
 use core_syntax::Memory;
 use machine::{Outcome, load};
 use machine_table::Code;
 use std::alloc::Global;
+use value_text::{DataRefusal, read_data};
 
-// What a code comes to, of which so many steps may be done.
-fn outcome(alloc: Global, code: &Code, budget: u64) -> Result<Outcome, Memory>
-    requires { code.now.params ≡ [] }
-    ensures { IfOk result (λ o. (steps : ℕ) × Answers code.now [] budget steps o) }
+// What a code comes to on arrays, of which so many steps may be done.
+fn outcome(alloc: Global, code: &Code, inputs: &[Array], budget: u64) -> Result<Outcome, Memory>
+    requires { length inputs.now ≡ length code.now.params }
+    ensures { IfOk result (λ o. (steps : ℕ) × Answers code.now inputs.now budget steps o) }
 {
-    let mut machine = load(alloc, code, &[])?;
+    let mut machine = load(alloc, code, inputs)?;
     machine.run(budget)
 }
 
@@ -34,25 +36,24 @@ fn outcome_answer(alloc: Global, outcome: &Outcome) -> Answer
     }
 }
 
-// The answer of a code, of which so many steps may be done.
-fn code_answer(alloc: Global, code: &Code, budget: u64) -> Answer
-    requires { code.now.params ≡ [] }
-    ensures { TellsDue (IsCodeDue code.now budget) result }
+// The answer of a code on arrays, of which so many steps may be done.
+fn code_answer(alloc: Global, code: &Code, inputs: &[Array], budget: u64) -> Answer
+    requires { length inputs.now ≡ length code.now.params }
+    ensures { TellsDue (HasCodeEnd code.now budget (each array_data inputs.now)) result }
 {
-    match outcome(alloc, code, budget) {
+    match outcome(alloc, code, inputs, budget) {
         Ok(outcome) => outcome_answer(alloc, &outcome),
         Err(Memory) => Answer::Memory,
     }
 }
 
-/// The answer of a code without inputs, with these data and so many steps: data that is too long (44), isn't read as forms (40),
-/// or holds a value (41) is refused, and else the answer says how the code ends. It is `Memory` where there is none.
+/// The answer of a code with these data and so many steps: why the data is refused (docs/LANGUAGE.md, "Data"), with 40 to 44, or
+/// how the code ends on the arrays that it is the text of. It is `Memory` where there is none.
 pub fn run_code(alloc: Global, code: &Code, given: &[u8], budget: u64) -> Answer
-    requires { code.now.params ≡ [] }
-    ensures { RunsCode code.now given.now budget result }
+    ensures { TellsDue (IsCodeDue code.now given.now budget) result }
 {
-    match no_data(alloc, given) {
-        Ok(()) => code_answer(alloc, code, budget),
+    match read_data(alloc, code.params(), given) {
+        Ok(inputs) => code_answer(alloc, code, inputs.as_slice(), budget),
         Err(DataRefusal::Refused { number, span }) => Answer::DataRefused { number, span },
         Err(DataRefusal::Memory) => Answer::Memory,
     }

@@ -14,7 +14,7 @@ pub enum Status {
     Refused { number: u8, span: Span },
     /// The words are no call of the program.
     Usage,
-    /// The program source failed.
+    /// The program source or the input failed.
     ReadFault,
     /// The output failed, and holds a front of what was due.
     WriteFault,
@@ -22,6 +22,8 @@ pub enum Status {
     StillRunning,
     /// There was no memory, and nothing was written.
     Memory,
+    /// The data was refused with this number at this place.
+    DataRefused { number: u8, span: Span },
     /// The machine was stuck, which only code that wasn't built from a program can bring about.
     Stuck(StuckKind),
 }
@@ -40,6 +42,7 @@ impl Status {
             Status::WriteFault => 5,
             Status::StillRunning => 6,
             Status::Memory => 7,
+            Status::DataRefused { .. } => 8,
             Status::Stuck(_) => 9,
         }
     }

@@ -3,7 +3,7 @@ ghost use Rattle.std.specs.Prelude.{◌≡◌, ◌++◌, IfOk, codes, string_byt
 ghost use Rattle.core_syntax.specs.NormTypes.{ty_text};
 ghost use Rattle.core_syntax.specs.Refine.{ty_of};
 ghost use Rattle.value_text.specs.ValueText.{array_text};
-ghost use Rattle.remora_driver.specs.Texts.{line, accepted_text, refusal_text, trap_text, stuck_text, still_running_text, usage_text};
+ghost use Rattle.remora_driver.specs.Texts.{line, accepted_text, refusal_text, data_refusal_text, trap_text, stuck_text, still_running_text, usage_text};
 
 use array_values::Array;
 use core_syntax::{Memory, Span, StuckKind, TrapKind, Ty};
@@ -47,6 +47,16 @@ pub fn refusal_line(alloc: Global, number: u8, at: Span) -> Result<String, Alloc
 {
     let (row, column) = (at.line, at.col);
     let mut out = format!(in alloc; "refused {number} {row}:{column}")?;
+    out.push_str("\n")?;
+    Ok(out)
+}
+
+/// The line of a refusal of data.
+pub fn data_refusal_line(alloc: Global, number: u8, at: Span) -> Result<String, AllocError>
+    ensures { IfOk result (λ text. string_bytes text ≡ line (data_refusal_text number at)) }
+{
+    let (row, column) = (at.line, at.col);
+    let mut out = format!(in alloc; "data refused {number} {row}:{column}")?;
     out.push_str("\n")?;
     Ok(out)
 }

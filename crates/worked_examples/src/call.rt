@@ -1,5 +1,5 @@
 // Calls of the program over memory.
-use rem_base::{MemSink, MemSource, SureSource};
+use rem_base::{MemSink, MemSource, Source, SureSource};
 use remora_driver::{Status, remora};
 use std::alloc::Global;
 use std::process::Abort;
@@ -18,16 +18,25 @@ pub struct Called {
     pub text: MemSink,
 }
 
-/// Calls the program with these words, which blanks separate.
+/// Calls the program with these words, which blanks separate, and with no input.
 pub fn call(alloc: Global, words: &str, source: &[u8]) -> Result<Called, Fail> {
+    call_on(alloc, words, source, &mut SureSource::new(Vec::new(alloc)))
+}
+
+/// The same with this input.
+pub fn call_on<I: Source>(
+    alloc: Global,
+    words: &str,
+    source: &[u8],
+    input: &mut I,
+) -> Result<Called, Fail> {
     let mut given = Vec::new(alloc);
     for word in words.split_whitespace() {
         given.push(String::from_str(alloc, word)?)?;
     }
     let mut program = MemSource::new(source.to_vec(alloc)?, PIECE, Vec::new(alloc));
-    let mut input = SureSource::new(Vec::new(alloc));
     let mut text = MemSink::new(alloc, ROOM, PIECE, Vec::new(alloc))?;
-    let status = remora(alloc, given.as_slice(), &mut program, &mut input, &mut text);
+    let status = remora(alloc, given.as_slice(), &mut program, input, &mut text);
     Ok(Called { status, text })
 }
 
@@ -39,6 +48,7 @@ fn status_of(line: &str) -> u8 {
         Some("refused") => 2,
         Some("usage:") => 3,
         Some("still") => 6,
+        Some("data") => 8,
         Some("stuck") => 9,
         Some(_) => 0,
     }
@@ -52,9 +62,22 @@ pub fn prints(
     source: &[u8],
     line: &str,
 ) -> Result<(), Fail> {
+    prints_on(rt, alloc, words, source, b"", line)
+}
+
+/// The same of a call on these data.
+pub fn prints_on(
+    rt: &impl Abort,
+    alloc: Global,
+    words: &str,
+    source: &[u8],
+    data: &[u8],
+    line: &str,
+) -> Result<(), Fail> {
     let end = if line.is_empty() { "" } else { "\n" };
     let due = format!(in alloc; "{line}{end}")?;
-    let called = call(alloc, words, source)?;
+    let mut input = MemSource::new(data.to_vec(alloc)?, PIECE, Vec::new(alloc));
+    let called = call_on(alloc, words, source, &mut input)?;
     let printed = str::from_utf8(called.text.written()).unwrap_or("no text");
     assert_eq!(rt; printed, due.as_str(), "{words}");
     assert_eq!(rt; called.status.code(), status_of(line), "{words}");
@@ -64,30 +87,31 @@ pub fn prints(
 /// The line of what isn't built yet.
 const NOT_BUILT: &str = "refused 90 1:1";
 
-/// Calls a command that comes to this line in so many steps and no fewer, `*` where that isn't said, `-` where it isn't built
-/// yet.
+/// Calls a command on data that comes to this line in so many steps and no fewer, `*` where that isn't said, `-` where it isn't
+/// built yet.
 pub fn ends(
     rt: &impl Abort,
     alloc: Global,
     command: &str,
     source: &[u8],
+    data: &[u8],
     steps: &str,
     line: &str,
 ) -> Result<(), Fail> {
     let words = format!(in alloc; "{command} f")?;
     if steps == "-" {
-        return prints(rt, alloc, words.as_str(), source, NOT_BUILT);
+        return prints_on(rt, alloc, words.as_str(), source, data, NOT_BUILT);
     }
-    prints(rt, alloc, words.as_str(), source, line)?;
+    prints_on(rt, alloc, words.as_str(), source, data, line)?;
     let Ok(least) = steps.parse::<u64>() else {
         assert_eq!(rt; steps, "*");
         return Ok(());
     };
     let enough = format!(in alloc; "{command} f --steps {least}")?;
-    prints(rt, alloc, enough.as_str(), source, line)?;
+    prints_on(rt, alloc, enough.as_str(), source, data, line)?;
     if least > 1 {
         let fewer = format!(in alloc; "{command} f --steps {}", least - 1)?;
-        prints(rt, alloc, fewer.as_str(), source, "still running")?;
+        prints_on(rt, alloc, fewer.as_str(), source, data, "still running")?;
     }
     Ok(())
 }

@@ -102,7 +102,7 @@ fn comes_to(rt: &impl Abort, alloc: Global, row: &str) -> Result<(), Fail> {
     let (blocks, rest) = first(row)?;
     let (steps, line) = first(rest)?;
     let text = code_text(alloc, blocks)?;
-    ends(rt, alloc, "exec", text.as_bytes(), steps, line)
+    ends(rt, alloc, "exec", text.as_bytes(), b"", steps, line)
 }
 
 #[test]

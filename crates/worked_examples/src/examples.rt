@@ -69,46 +69,44 @@ static EXAMPLES: &[&str] = &[
     "(main () ((fn ((f (Forall (t) (Pi ((d Dim) (s Shape)) (-> ((A t (++ (shape d) s))) Int))))) Int 1) length)) => (A Int (shape)) => 8 => - => (array () 1)",
     "(main () (unbox (d x ((i-app (t-app ravel Int) (shape)) 5))\n Int ((i-app (t-app length Int) d (shape)) x))) => (A Int (shape)) => 27 => - => (array () 1)",
     "(main () ((i-app iota 2) (array (2) 2 2))) => (A (Sigma ((i0 Shape)) (A Int i0)) (shape)) => 9 => - => (array () (box (shape 2 2) (array (2 2) 0 1 2 3)))",
-    // Programs with inputs, which no command gives data today.
-    "(main ((x Int) (y Bool)) x) => (A Int (shape)) => - => - => -",
-    "(main ((x (A Int (shape 1099511627776)))) 1) => (A Int (shape)) => - => - => -",
-    "(main ((x (A Int (shape 4294967295 0)))) ((fn ((v (A Int (shape 0)))) Int 1) x)) => (A Int (shape 4294967295)) => - => - => -",
-    "(main ((b (Sigma ((d Dim)) (A Int (shape d))))) (unbox (d v b) Int ((i-app (t-app length Int) d (shape)) v))) => (A Int (shape)) => - => - => -",
-    "; each row of m times v\n(define dot (-> ((A Int (shape 3)) (A Int (shape 3))) Int)\n (fn ((a (A Int (shape 3))) (b (A Int (shape 3)))) Int\n  ((i-app (t-app reduce Int) 2 (shape)) + (* a b))))\n(main ((m (A Int (shape 2 3))) (v (A Int (shape 3)))) (dot m v)) => (A Int (shape 2)) => - => - => -",
 ];
 
-// A program with a code prints the same by `run` and by `exec` of what `build` writes, after the same number of steps.
+// A program prints the same by `run` and by `exec` of what `build` writes, after the same number of steps.
 fn runs(
     rt: &impl Abort,
     alloc: Global,
     source: &[u8],
+    data: &[u8],
     steps: &str,
     line: &str,
 ) -> Result<(), Fail> {
-    ends(rt, alloc, "run", source, steps, line)?;
-    if steps == "-" {
-        return prints(rt, alloc, "build f", source, "refused 90 1:1");
-    }
+    ends(rt, alloc, "run", source, data, steps, line)?;
     let built = call(alloc, "build f", source)?;
-    ends(rt, alloc, "exec", built.text.written(), steps, line)
+    ends(rt, alloc, "exec", built.text.written(), data, steps, line)
 }
 
-/// Each command gives these answers: the type, the steps of the code and of reduction, and the line.
-pub fn comes_to(rt: &impl Abort, alloc: Global, source: &[u8], answers: &str) -> Result<(), Fail> {
+/// Each command gives these answers on these data: the type, the steps of the code and of reduction, and the line.
+pub fn comes_to(
+    rt: &impl Abort,
+    alloc: Global,
+    source: &[u8],
+    data: &[u8],
+    answers: &str,
+) -> Result<(), Fail> {
     let (ty, rest) = first(answers)?;
     let (run_steps, rest) = first(rest)?;
     let (reduction_steps, line) = first(rest)?;
     let checked = format!(in alloc; "ok {ty}")?;
     prints(rt, alloc, "check f", source, checked.as_str())?;
-    runs(rt, alloc, source, run_steps, line)?;
-    ends(rt, alloc, "reduce", source, reduction_steps, line)
+    runs(rt, alloc, source, data, run_steps, line)?;
+    ends(rt, alloc, "reduce", source, data, reduction_steps, line)
 }
 
 #[test]
 fn programs_come_to_their_values(rt: HostRuntime) -> Result<(), Fail> {
     for row in EXAMPLES.iter() {
         let (source, answers) = first(row)?;
-        comes_to(&rt, rt.alloc(), source.as_bytes(), answers)?;
+        comes_to(&rt, rt.alloc(), source.as_bytes(), b"", answers)?;
     }
     Ok(())
 }

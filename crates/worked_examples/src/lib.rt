@@ -12,6 +12,8 @@ mod examples;
 #[cfg(test)]
 mod faults;
 #[cfg(test)]
+mod inputs;
+#[cfg(test)]
 mod large;
 #[cfg(test)]
 mod library;

@@ -14,7 +14,7 @@ static WITH_DATA: [(&str, &str, &str); 7] = [
     ("(main () (+ 1 2))", " 51 2", "data refused 41 1:2"),
     ("(main () (+ 1 2))", "(", "data refused 40 1:1"),
     ("(main () x)", "5", "refused 8 1:10"),
-    ("(main ((x Int)) x)", "5", "refused 90 1:1"),
+    ("(main ((x Int)) x)", "5", "(array () 5)\n"),
     ("(main () (div 1 0))", "", "trap"),
 ];
 

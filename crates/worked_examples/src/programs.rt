@@ -189,19 +189,56 @@ static PROGRAMS: &[(&str, &str)] = &[
         ((i-app (t-app take Char) n 1 (shape)) text))))))
 (main () ((i-app words 24) "to be or  not to be: that"))"#,
     ),
+];
+
+// The same of those with inputs: their answers, their data and their texts.
+static ON_DATA: &[(&str, &str, &str)] = &[
     (
-        "(A Int (shape 2)) => - => - => -",
+        "(A Int (shape 2)) => * => - => (array (2) 7 16)",
+        r"(array (2 3) 1 2 3
+             4 5 6)
+(array (3) 1 0 2)",
         r"(define dot (-> ((A Int (shape 3)) (A Int (shape 3))) Int)
   (fn ((a (A Int (shape 3))) (b (A Int (shape 3)))) Int
     ((i-app (t-app reduce Int) 2 (shape)) + (* a b))))
 (main ((m (A Int (shape 2 3))) (v (A Int (shape 3)))) (dot m v))",
+    ),
+    (
+        "(A Int (shape)) => * => - => (array () 15)",
+        r"(box 8 (array (8) 3 14 15 9 26 5 35 16))",
+        r"(define mean (Pi ((n Dim)) (-> ((A Int (shape n))) Int))
+  (ifn ((n Dim))
+    (fn ((xs (A Int (shape n)))) Int
+      (div ((i-app (t-app fold Int Int) n (shape) (shape)) + 0 xs)
+           (max 1 ((i-app (t-app length Int) n (shape)) xs))))))
+(main ((numbers (Sigma ((n Dim)) (A Int (shape n)))))
+  (unbox (n xs numbers) Int ((i-app mean n) xs)))",
+    ),
+    (
+        "(A Int (shape)) => * => - => (array () 10)",
+        r#"(box 42 "to be, or not to be:  that is the question")"#,
+        r"(define is-blank (-> (Char) Bool) (fn ((c Char)) Bool (char= c #\u20)))
+(define words (Pi ((n Dim)) (-> ((A Char (shape n))) Int))
+  (ifn ((n Dim))
+    (fn ((text (A Char (shape n)))) Int
+      ((i-app (t-app fold Int Int) (+ n 1) (shape) (shape))
+       +
+       0
+       (bool->int
+        (and (is-blank ((i-app (t-app append Char) 1 n (shape)) (array (1) #\u20) text))
+             (not (is-blank ((i-app (t-app append Char) n 1 (shape)) text (array (1) #\u20))))))))))
+(main ((line (Sigma ((n Dim)) (A Char (shape n)))))
+  (unbox (n text line) Int ((i-app words n) text)))",
     ),
 ];
 
 #[test]
 fn the_programs_of_examples(rt: HostRuntime) -> Result<(), Fail> {
     for (answers, source) in PROGRAMS.iter() {
-        comes_to(&rt, rt.alloc(), source.as_bytes(), answers)?;
+        comes_to(&rt, rt.alloc(), source.as_bytes(), b"", answers)?;
+    }
+    for (answers, data, source) in ON_DATA.iter() {
+        comes_to(&rt, rt.alloc(), source.as_bytes(), data.as_bytes(), answers)?;
     }
     Ok(())
 }

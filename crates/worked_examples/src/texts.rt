@@ -14,7 +14,6 @@ static TEXTS: &[&str] = &[
     "remora-code 1\nparams 0\nblocks 1\nblock 4\nprim +\nconst (2 3) 1 2 3 4 5 6\nconst (2) 10 20\napp ((shape) (shape)) shape\n => refused 32 8:23",
     "remora-code 1\nparams 0\nblocks 1\nblock 1\nconst (4294967295 4294967295 2) 1\n => refused 32 5:31",
     "remora-code 1\nparams 0\nblocks 1\nblock 1\nconst () #\\u61\n => refused 32 5:15",
-    "remora-code 1\nparams 1\n(A Int (shape))\nblocks 1\nblock 1\nvar 0\n => refused 90 1:1",
 ];
 
 #[test]

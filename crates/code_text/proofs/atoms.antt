@@ -1,0 +1,4 @@
+pub mod Integers
+pub mod Hex
+pub mod HexReads
+pub mod Literals

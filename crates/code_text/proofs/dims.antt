@@ -1,0 +1,5 @@
+pub mod DimsGoes
+pub mod DimsTakes
+pub mod DimsLoop
+pub mod DimsAgain
+pub mod Filled

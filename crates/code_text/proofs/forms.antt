@@ -1,0 +1,4 @@
+pub mod Lists
+pub mod IndexForms
+pub mod ParamForms
+pub mod CodeForms

@@ -1,0 +1,9 @@
+pub mod Sums
+pub mod Runs
+pub mod Dims
+pub mod Shapes
+pub mod Alone
+pub mod Indices
+pub mod Ascending
+pub mod NormalSums
+pub mod NormalWords

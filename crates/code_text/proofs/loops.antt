@@ -1,0 +1,4 @@
+pub mod Loop
+pub mod ItemLoop
+pub mod Loops
+pub mod Printed

@@ -1,0 +1,6 @@
+pub mod Binders
+pub mod Scopes
+pub mod Stack
+pub mod Params
+pub mod Types
+pub mod ParamRows
