@@ -9,9 +9,9 @@ use Rattle.substitution.proofs.putting.+put.Goals as goal
 
 pub put_term-returns-in_ok-atoms-in-Array : goal.put_term-returns-in_ok-atoms-in-Array
 put_term-returns-in_ok-atoms-in-Array t c =
-    subst (λ w. IfOk c.array.result (λ r. term_of r ≡ w))
+    subst (λ w. IfOk c.array_over.result (λ r. term_of r ≡ w))
     (put_array c.args.under.indices c.args.under.types c.args.under.terms c.args.puts.indices.now c.args.puts.types.now c.args.puts.terms.now c.args.term.now _ _ _ _ c.as_slice-in-Array.ensures c.as_slice.ensures c.in-Array.is _ c.in_ok-atoms-in-Array.ensures)
-    c.array.ensures
+    c.array_over.ensures
 
 pub put_term-returns-in-NoAtoms : goal.put_term-returns-in-NoAtoms
 put_term-returns-in-NoAtoms t c =

@@ -14,10 +14,10 @@ array-returns-in-Arr t c =
 
 pub elements-returns : goal.elements-returns
 elements-returns t c =
-    subst (λ w. IfOk c.array.result (λ u. term_of u ≡ w))
+    subst (λ w. IfOk c.array_over.result (λ u. term_of u ≡ w))
     (ap (λ dims. TArray dims (cells_of c.in_ok-atoms.atoms.items)) c.dims-2.ensures.dims
     ∙ array_filled (ty_of c.args.element.now) c.args.array.now.dims c.args.array.now.atoms c.in_ok-atoms.atoms.items (λ none. c.if-len-eq0.false (c.len.ensures.len ∙ none)) c.in_ok-atoms.ensures)
-    c.array.ensures
+    c.array_over.ensures
 
 pub elements-returns-then-len-eq0 : goal.elements-returns-then-len-eq0
 elements-returns-then-len-eq0 t c =

@@ -23,7 +23,7 @@ pub annotated-returns-in_ok-atoms-in-Array : goal.annotated-returns-in_ok-atoms-
 annotated-returns-in_ok-atoms-in-Array t c =
     let ns = notes_from c.args.at.now c.args.notes.now in
     let ms = notes_from c.next_note-note.new.at c.args.notes.now in
-    IfOk-weaker c.array.result _ _ (λ u e. reads _ _ _ _ (read_array c.args.expr.now ns ms c.next_note-note.ensures.place _ _ _ _ c.as_slice-in-Array.ensures c.as_slice.ensures c.in-Array.is _ _ c.in_ok-atoms-in-Array.ensures) e) c.array.ensures
+    IfOk-weaker c.array_over.result _ _ (λ u e. reads _ _ _ _ (read_array c.args.expr.now ns ms c.next_note-note.ensures.place _ _ _ _ c.as_slice-in-Array.ensures c.as_slice.ensures c.in-Array.is _ _ c.in_ok-atoms-in-Array.ensures) e) c.array_over.ensures
 
 pub annotated-returns-in-NoAtoms : goal.annotated-returns-in-NoAtoms
 annotated-returns-in-NoAtoms t c =
