@@ -1,4 +1,5 @@
 // The start of a run of a checked program (docs/LANGUAGE.md, "Reduction").
+ghost use Rattle.std.specs.Prelude.{IfOk};
 ghost use Rattle.array_values.specs.Data.{array_data};
 ghost use Rattle.core_syntax.specs.Data.{FitsValues};
 ghost use Rattle.core_syntax.specs.Lists.{each};
