@@ -18,7 +18,7 @@ use Rattle.core_syntax.specs.TermPut.{term_put}
 use Rattle.core_syntax.specs.Terms.{IndexValue}
 use Rattle.core_syntax.specs.Typed.{closed_value, typed_rules, TypedTerm, TypedPuts, value_index}
 use Rattle.core_syntax.proofs.RowsOfTerms.{of_type_fn, of_index_fn, of_boxed}
-use Rattle.typed_step.specs.Indices.{kept_values}
+use Rattle.term_values.specs.Indices.{kept_values}
 
 pub type_fn_bound : (us : List Ty) (a : TermAtom) (n : ℕ) (e e' : TermExpr) (x : TypedTerm) → e' ≡ e → a ≡ TypeFn n e → x ≡ term_put typed_rules (typed_rules.put_types us) kept (term_of e')
     → Goes x ≡ type_beta typed_rules us (cell_of a ∷ [])

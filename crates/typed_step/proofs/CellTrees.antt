@@ -18,15 +18,8 @@ use Rattle.core_syntax.specs.Syntax as syntax
 use Rattle.core_syntax.specs.Terms.{TArray, TFrame, TApp, more_terms, more_cells, term_list, cell_list, scalar_of}
 use Rattle.core_syntax.specs.Typed.{typed_rules, TypedTerm}
 use Rattle.typed_step.specs.Frames.{one_at, cells_at, columns_at}
+use Rattle.term_values.proofs.TermLists.{terms_are, atoms_are}
 use Rattle.naturality.proofs.Eaches.{each_append, each_take, each_drop}
-
-pub terms_are : (ts : List TermExpr) → terms_of ts ≡ term_list (each term_of ts)
-terms_are [] = refl
-terms_are (t ∷ ts) = ap (λ us. more_terms (term_of t) us) (terms_are ts)
-
-pub atoms_are : (xs : List TermAtom) → cells_of xs ≡ cell_list (each cell_of xs)
-atoms_are [] = refl
-atoms_are (x ∷ xs) = ap (λ ys. more_cells (cell_of x) ys) (atoms_are xs)
 
 -- a part of a term that is no empty array
 pub part_is : (t : TermExpr) (a : Arrayed TypedCell) → ((dims : List ℕ) (n : Ty) → t ≡ NoAtoms dims n → ⊥) → part_of typed_rules (term_of t) a ≡ TArray a.dims (cell_list a.atoms)

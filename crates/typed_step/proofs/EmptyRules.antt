@@ -9,7 +9,7 @@ use Rattle.core_syntax.specs.Rules.{goes_empty}
 use Rattle.core_syntax.specs.Syntax.{Ty}
 use Rattle.core_syntax.specs.Terms.{TNoAtoms}
 use Rattle.core_syntax.specs.Typed.{typed_rules, TypedTerm}
-use Rattle.typed_step.specs.Indices.{small}
+use Rattle.term_values.specs.Indices.{small}
 
 none_small : (b : Bool) (ns : List ℕ) → None ≡ elim b as (λ b. Option (List ℕ)) [ true ↦ Some ns | false ↦ None ] → b ≡ false
 none_small true ns e = absurd (cc)

@@ -16,8 +16,8 @@ use Rattle.core_syntax.specs.Rules.{dims_of, frames_of, and_list}
 use Rattle.core_syntax.specs.Typed.{closed, typed_rules}
 use Rattle.core_syntax.specs.Value.{shape_val}
 use Rattle.typed_step.specs.Frames.{backs}
-use Rattle.typed_step.specs.Indices.{small}
-use Rattle.typed_step.proofs.Products.{all_below_is}
+use Rattle.term_values.specs.Indices.{small}
+use Rattle.term_values.proofs.Products.{all_below_is}
 use Rattle.reduction_laws.proofs.steps.Frames.{equal_test, onto_onto, onto-append, onto_split, frame_before_cell}
 use Rattle.typed_step.proofs.FrontLists.{fronts_of}
 use Rattle.naturality.proofs.Eaches.{each_append}

@@ -18,9 +18,9 @@ use Rattle.core_syntax.specs.Rules.{atoms_of, part_of, lifted, lifted_by}
 use Rattle.core_syntax.specs.Syntax.{Index, Ty as SyntaxTy}
 use Rattle.core_syntax.specs.Terms.{TArray, TNoAtoms, TApp, more_terms, term_list, more_cells, cell_list}
 use Rattle.core_syntax.specs.Typed.{typed_rules, TypedTerm}
-use Rattle.typed_step.proofs.ArrayCuts.{joined_append}
+use Rattle.prim_kernels.proofs.ArrayCuts.{joined_append}
 use Rattle.reduction_laws.proofs.steps.Frames.{prefix_rest}
-use Rattle.typed_step.proofs.Products.{product_joined}
+use Rattle.term_values.proofs.Products.{product_joined}
 use Rattle.naturality.proofs.Eaches.{each_append, each_take, each_drop}
 
 -- ---- frames that are one

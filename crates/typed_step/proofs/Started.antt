@@ -24,7 +24,7 @@ use Rattle.core_syntax.specs.Typed.{typed_rules, TypedTerm}
 use Rattle.core_syntax.specs.Wholes.{program_of}
 use Rattle.typed_step.specs.Closing.{IsClosed}
 use Rattle.reduction_laws.specs.Laws.{IsReady, def_types}
-use Rattle.typed_step.specs.Starting.{StartsAt}
+use Rattle.typed_start.specs.Starting.{StartsAt}
 use Rattle.reduction_laws.specs.Readings.{notes_from}
 use Rattle.reduction_laws.proofs.runs.Results.{defs_ready, starts_typed}
 

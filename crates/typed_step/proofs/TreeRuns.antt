@@ -19,7 +19,7 @@ use Rattle.core_syntax.specs.Typed.{typed, typed_rules, TypedTerm}
 use Rattle.core_syntax.proofs.RowsOfTerms.{of_array, of_frame, of_app, of_type_app, of_index_app, of_unbox, of_boxed}
 use Rattle.typed_step.specs.declared.outcome.End.{End}
 use Rattle.typed_step.specs.declared.outcome.End.TheVariants as end
-use Rattle.typed_step.specs.Frames.{FirstHasRoom}
+use Rattle.term_values.specs.Rooms.{FirstHasRoom}
 use Rattle.typed_step.specs.Outcomes.{fires, trapped}
 use Rattle.typed_step.specs.Runs.{moves, EndsHere, TermRun, TermsRun, frame_step, FrameRun, CellRun, CellsRun, BoxRun, PartsRun, ApplicationRun}
 use Rattle.reduction_laws.proofs.runs.Once.{goes_to}

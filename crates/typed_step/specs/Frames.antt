@@ -17,11 +17,6 @@ abbrev pub backs : List ℕ → List (List ℕ) → List (List ℕ)
 backs (k ∷ ks) (d ∷ ds) = drop k d ∷ backs ks ds
 backs _ _ = []
 
--- whether an array may have the dims of a frame followed by those of the first of its cells
-abbrev pub FirstHasRoom : List ℕ → Terms typed → Bool → Type 0
-FirstHasRoom frame no_terms b = ⊤
-FirstHasRoom frame (more_terms t ts) b = b ≡ forms (frame ++ dims_of typed_rules t)
-
 -- a list is one of these
 abbrev pub IsOneOf : List ℕ → List (List ℕ) → Type 0
 IsOneOf f [] = ⊥

@@ -1,10 +1,5 @@
-pub mod Answers
-pub mod ArrayAnswers
 pub mod Outcomes
 pub mod Runs
 pub mod Frames
-pub mod Indices
-pub mod Starting
 pub mod Closing
 pub mod Steps
-pub mod Putting

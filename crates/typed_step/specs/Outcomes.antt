@@ -1,4 +1,4 @@
--- What the rules of reduction make of trees.
+-- The rules of reduction of terms whose parts are values.
 use Rattle.std.specs.Prelude.{List}
 use Rattle.core_syntax.specs.declared.errors.TrapKind.{TrapKind}
 use Rattle.core_syntax.specs.Terms.{TVar, TDef, TArray, TNoAtoms, TFrame, TNoCells, TApp, TTypeApp, TIndexApp, TUnbox, no_terms, more_terms, term_items}
@@ -6,16 +6,6 @@ use Rattle.core_syntax.specs.Move.{Move, Rests, Trapped, Goes, Lost}
 use Rattle.core_syntax.specs.Rules.{goes_empty, apply, over_value, type_beta, index_beta, unbox_one, collapse}
 use Rattle.core_syntax.specs.Step.{unfolded}
 use Rattle.core_syntax.specs.Typed.{typed_rules, TypedTerm}
-use Rattle.core_syntax.specs.RefineTerms.{term_of}
-use Rattle.typed_step.specs.declared.outcome.Outcome.{Outcome}
-use Rattle.typed_step.specs.declared.outcome.Outcome.TheVariants as outcome
-
--- what a rule gives, as a move
-abbrev pub move_of : Outcome → Move TypedTerm
-move_of outcome.Rests = Rests
-move_of (outcome.Trap k) = Trapped k
-move_of (outcome.Goes t) = Goes (term_of t)
-move_of outcome.Lost = Lost
 
 -- a step that traps
 abbrev pub trapped : TrapKind → Move TypedTerm

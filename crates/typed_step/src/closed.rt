@@ -6,9 +6,6 @@ ghost use Rattle.typed_step.specs.Closing.{IsClosed};
 use core_syntax::{TermExpr, TrapKind};
 use sqlite_items::Items;
 
-/// How deep a term may nest that a run makes. A deeper one finds no memory.
-pub(crate) const DEEPEST: u32 = 512;
-
 /// A closed term and the definitions that it names, all of which are typed.
 #[derive(Drop)]
 pub struct Closed {

@@ -12,11 +12,10 @@ ghost use Rattle.core_syntax.specs.Value.{shape_val};
 ghost use Rattle.typed_step.specs.Frames.{fronts, backs, IsLongest, one_at, cells_at, columns_at};
 
 use crate::rules::Application;
-use crate::terms::{copied_indices, copied_scalar, frame_parts, joined, push_copies};
-use crate::{indices, terms, values};
 use core_syntax::{Index, Memory, Part, TermAtom, TermExpr, Ty};
 use sqlite_items::Items;
 use std::alloc::Global;
+use term_values::{copied_indices, copied_scalar, frame_parts, joined, push_copies};
 
 /// The rank of each argument's frame over its cell's shape; none where the dims of one don't end in its cell's.
 pub(crate) fn ranks(
@@ -35,7 +34,7 @@ pub(crate) fn ranks(
     for place in 0..args.len() {
         match rank(alloc, &cells[place], &args[place])? {
             None => return Ok(None),
-            Some(rank) => ranks.push(rank).map_err(|_| Memory)?,
+            Some(rank) => ranks.push(rank)?,
         }
     }
     Ok(Some(ranks))
@@ -46,8 +45,8 @@ fn rank(alloc: Global, cell: &Index, arg: &TermExpr) -> Result<Option<usize>, Me
     ensures frame { IfOk result (λ r. option_map (λ rank. take rank (dims_of typed_rules (term_of arg.now))) r ≡ frame_before (shape_val closed (index_of cell.now)) (dims_of typed_rules (term_of arg.now))) }
     ensures cell { IfOk result (λ r. IfSome r (λ rank. drop rank (dims_of typed_rules (term_of arg.now)) ≡ shape_val closed (index_of cell.now))) }
 {
-    let dims = values::dims(arg);
-    match indices::shape_dims(alloc, cell)? {
+    let dims = term_values::dims(arg);
+    match term_values::shape_dims(alloc, cell)? {
         None => Ok(None),
         Some(cell) => Ok(frame_rank(cell.as_slice(), dims)),
     }
@@ -76,11 +75,11 @@ pub(crate) fn greatest<'a>(
     ensures { option_copied result ≡ greatest_of (dims_of typed_rules (term_of function.now) ∷ fronts ranks.now (each (λ a. dims_of typed_rules (term_of a)) args.now)) }
 {
     let frame = longest(function, args, ranks);
-    if !frame.starts_with(values::dims(function)) {
+    if !frame.starts_with(term_values::dims(function)) {
         return None;
     }
     for place in 0..args.len() {
-        if !frame.starts_with(front(values::dims(&args[place]), ranks[place])) {
+        if !frame.starts_with(front(term_values::dims(&args[place]), ranks[place])) {
             return None;
         }
     }
@@ -92,9 +91,9 @@ fn longest<'a>(function: &'a TermExpr, args: &'a [TermExpr], ranks: &[usize]) ->
     requires { length ranks.now ≡ length args.now }
     ensures { IsLongest result.now (dims_of typed_rules (term_of function.now) ∷ fronts ranks.now (each (λ a. dims_of typed_rules (term_of a)) args.now)) }
 {
-    let mut longest = values::dims(function);
+    let mut longest = term_values::dims(function);
     for place in 0..args.len() {
-        let frame = front(values::dims(&args[place]), ranks[place]);
+        let frame = front(term_values::dims(&args[place]), ranks[place]);
         if frame.len() > longest.len() {
             longest = frame;
         }
@@ -126,11 +125,11 @@ pub(crate) fn all_are(
     requires { length ranks.now ≡ length args.now }
     ensures { result ≡ all_frames_are frame.now (dims_of typed_rules (term_of function.now) ∷ fronts ranks.now (each (λ a. dims_of typed_rules (term_of a)) args.now)) }
 {
-    if frame != values::dims(function) {
+    if frame != term_values::dims(function) {
         return false;
     }
     for place in 0..args.len() {
-        if frame != front(values::dims(&args[place]), ranks[place]) {
+        if frame != front(term_values::dims(&args[place]), ranks[place]) {
             return false;
         }
     }
@@ -167,7 +166,7 @@ fn applied(
 {
     let cells = copied_indices(alloc, cells)?;
     let answer = answer.copy(alloc)?;
-    Ok(terms::application(function, args, cells, answer))
+    Ok(term_values::application(function, args, cells, answer))
 }
 
 /// A function replicated to a frame: each of its cells is an atom.
@@ -180,7 +179,7 @@ fn lifted_function(
     requires { product frame.now ≤ 2 ^ 24 }
     ensures { IfOk result (λ t. term_of t ≡ replicated_to typed_rules frame.now (dims_of typed_rules (term_of function.now)) [] (term_of function.now)) }
 {
-    let rank = values::dims(function).len();
+    let rank = term_values::dims(function).len();
     let function = lifted(alloc, frame, rank, function, room)?;
     Part::new(alloc, function)
 }
@@ -200,7 +199,7 @@ fn all_lifted(
     let mut all = Vec::new(alloc);
     for place in 0..args.len() {
         let arg = lifted(alloc, frame, ranks[place], &args[place], room)?;
-        all.push(arg).map_err(|_| Memory)?;
+        all.push(arg)?;
     }
     Ok(all)
 }
@@ -216,7 +215,7 @@ fn lifted(
     requires { product frame.now ≤ 2 ^ 24 }
     ensures { IfOk result (λ t. term_of t ≡ replicated_to typed_rules frame.now (take rank (dims_of typed_rules (term_of term.now))) (drop rank (dims_of typed_rules (term_of term.now))) (term_of term.now)) }
 {
-    let dims = values::dims(term);
+    let dims = term_values::dims(term);
     let own = front(dims, rank);
     if !frame.starts_with(own) {
         return term.copy(alloc, room);
@@ -227,8 +226,8 @@ fn lifted(
     match term {
         TermExpr::NoAtoms(_, ty) => Ok(TermExpr::NoAtoms(dims, ty.copy(alloc)?)),
         _ => {
-            let atoms = over_frame(alloc, own, rest, cell, values::atoms(term), room)?;
-            Ok(terms::array(dims, atoms))
+            let atoms = over_frame(alloc, own, rest, cell, term_values::atoms(term), room)?;
+            Ok(term_values::array(dims, atoms))
         }
     }
 }
@@ -247,9 +246,9 @@ fn over_frame(
 {
     replicated(
         alloc,
-        values::count(own),
-        values::count(rest),
-        values::size(cell),
+        term_values::count(own),
+        term_values::count(rest),
+        term_values::size(cell),
         atoms,
         room,
     )
@@ -306,8 +305,8 @@ pub(crate) fn map(
 {
     let room = room.checked_sub(1).ok_or(Memory)?;
     let (dims, answer) = frame_parts(alloc, frame, application.answer)?;
-    match all_mapped(alloc, values::count(frame), ranks, application, room) {
-        Ok(cells) => Ok(terms::frame(dims, cells, answer)),
+    match all_mapped(alloc, term_values::count(frame), ranks, application, room) {
+        Ok(cells) => Ok(term_values::frame(dims, cells, answer)),
         Err(memory) => Err(memory),
     }
 }
@@ -323,11 +322,11 @@ fn all_mapped(
     requires { length ranks.now ≡ length application.args.now }
     ensures { IfOk result (λ ts. each term_of ts.items ≡ apps typed_rules (atoms_of typed_rules (term_of application.entry.function.now)) (columns_at 0 count ranks.now (each term_of application.entry.args.now)) (each index_of application.entry.cells.now) (ty_of application.entry.answer.now)) }
 {
-    let functions = values::atoms(application.function);
+    let functions = term_values::atoms(application.function);
     let mut cells = Vec::new(alloc);
     for (place, function) in (0..count).zip(functions) {
         let cell = mapped(alloc, place, function, ranks, application, room)?;
-        cells.push(cell).map_err(|_| Memory)?;
+        cells.push(cell)?;
     }
     Ok(cells)
 }
@@ -349,7 +348,7 @@ fn mapped(
     let function = copied_scalar(alloc, function, room)?;
     let room = room.checked_sub(1).ok_or(Memory)?;
     match arguments_at(alloc, place, ranks, application.args, room) {
-        Ok(args) => Ok(terms::application(function, args, cells, answer)),
+        Ok(args) => Ok(term_values::application(function, args, cells, answer)),
         Err(memory) => Err(memory),
     }
 }
@@ -368,7 +367,7 @@ fn arguments_at(
     let mut cells = Vec::new(alloc);
     for i in 0..args.len() {
         let cell = cell_at(alloc, place, ranks[i], &args[i], room)?;
-        cells.push(cell).map_err(|_| Memory)?;
+        cells.push(cell)?;
     }
     Ok(cells)
 }
@@ -383,8 +382,8 @@ fn cell_at(
 ) -> Result<TermExpr, Memory>
     ensures { IfOk result (λ t. term_of t ≡ one_at place rank (term_of term.now)) }
 {
-    let cell = back(values::dims(term), rank);
-    let dims = Items::from_slice(alloc, cell).map_err(|_| Memory)?;
+    let cell = back(term_values::dims(term), rank);
+    let dims = Items::from_slice(alloc, cell)?;
     match term {
         TermExpr::NoAtoms(_, ty) => Ok(TermExpr::NoAtoms(dims, ty.copy(alloc)?)),
         _ => {
@@ -392,10 +391,10 @@ fn cell_at(
             push_copies(
                 &mut atoms,
                 alloc,
-                run_at(values::atoms(term), place, values::size(cell)),
+                run_at(term_values::atoms(term), place, term_values::size(cell)),
                 room,
             )?;
-            Ok(terms::array(dims, atoms))
+            Ok(term_values::array(dims, atoms))
         }
     }
 }

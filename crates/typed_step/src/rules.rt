@@ -9,19 +9,19 @@ ghost use Rattle.core_syntax.specs.Terms.{IndexValue, TFrame, TTypeApp, TIndexAp
 ghost use Rattle.core_syntax.specs.Typed.{atom_type as atoms_type, typed_rules, shape_of, closed, value_index};
 ghost use Rattle.core_syntax.specs.Value.{shape_val};
 ghost use Rattle.typed_step.specs.Frames.{fronts, backs};
-ghost use Rattle.typed_step.specs.Indices.{AreValues};
-ghost use Rattle.typed_step.specs.Outcomes.{move_of, fires};
+ghost use Rattle.term_values.specs.Indices.{AreValues};
+ghost use Rattle.typed_prims.specs.Outcomes.{move_of};
+ghost use Rattle.typed_step.specs.Outcomes.{fires};
 
-use crate::outcome::Outcome;
-use crate::terms::{
-    atom_type, copied_indices, copied_part, copied_scalar, copied_types, frame_parts, joined,
-    push_copies, scalar, with_atoms,
-};
-use crate::values::MOST_CELLS;
-use crate::{delta, indices, lifting, putting, terms, values};
+use crate::lifting;
 use core_syntax::{Index, Memory, Primitive, Sort, TermAtom, TermExpr, TrapKind, Ty};
 use sqlite_items::Items;
 use std::alloc::Global;
+use term_values::{
+    MOST_CELLS, atom_type, copied_indices, copied_part, copied_scalar, copied_types, frame_parts,
+    joined, push_copies, scalar, with_atoms,
+};
+use typed_prims::{Outcome, delta};
 
 /// An application: its function, its arguments, the shape of each argument's cell, and the type of the result's cell.
 #[derive(Clone, Copy)]
@@ -36,12 +36,12 @@ pub(crate) struct Application<'a> {
 pub(crate) fn empty(alloc: Global, frame: &[u32], cell: &Ty) -> Result<Outcome, Memory>
     ensures { IfOk result (λ o. move_of o ≡ goes_empty typed_rules (frame.now ++ shape_val closed (shape_of (ty_of cell.now))) (atoms_type (ty_of cell.now))) }
 {
-    let cell_dims = match indices::type_dims(alloc, cell)? {
+    let cell_dims = match term_values::type_dims(alloc, cell)? {
         None => return Ok(Outcome::Trap(TrapKind::Size)),
         Some(dims) => dims,
     };
     let dims = joined(alloc, frame, cell_dims.as_slice())?;
-    if !values::forms(dims.as_slice()) {
+    if !term_values::forms(dims.as_slice()) {
         return Ok(Outcome::Trap(TrapKind::Size));
     }
     let ty = atom_type(alloc, cell)?;
@@ -78,7 +78,7 @@ fn apply_at(
     requires cells { backs ranks.now (each (λ a. dims_of typed_rules (term_of a)) application.args.now) ≡ each (λ c. shape_val closed (index_of c)) application.cells.now }
     ensures { IfOk result (λ o. move_of o ≡ applied_at typed_rules frame.now (fronts ranks.now (each (λ a. dims_of typed_rules (term_of a)) application.entry.args.now)) (term_of application.entry.function.now) (each term_of application.entry.args.now) (each index_of application.entry.cells.now) (ty_of application.entry.answer.now)) }
 {
-    let count = values::count(frame);
+    let count = term_values::count(frame);
     if count > MOST_CELLS {
         return Ok(Outcome::Trap(TrapKind::Size));
     }
@@ -86,7 +86,7 @@ fn apply_at(
         return empty(alloc, frame, application.answer);
     }
     if frame.is_empty() {
-        let atoms = values::atoms(application.function);
+        let atoms = term_values::atoms(application.function);
         return apply_atoms(alloc, atoms, application.args, application.answer, room);
     }
     if lifting::all_are(frame, application.function, application.args, ranks) {
@@ -128,11 +128,11 @@ fn apply_atom(
             if inputs.len() != args.len() {
                 return Ok(Outcome::Lost);
             }
-            let body = putting::with_arguments(alloc, body.get(), args, room)?;
+            let body = substitution::with_arguments(alloc, body.get(), args, room)?;
             Ok(Outcome::Goes(body))
         }
         TermAtom::Prim(primitive, types, indices) => {
-            delta::delta(alloc, *primitive, types, indices, args, answer, room)
+            delta(alloc, *primitive, types, indices, args, answer, room)
         }
         _ => Ok(Outcome::Lost),
     }
@@ -148,11 +148,11 @@ pub(crate) fn apply_types(
 ) -> Result<Outcome, Memory>
     ensures { IfOk result (λ o. move_of o ≡ over_value typed_rules (term_of function.now) (λ a. TTypeApp a (each ty_of types.now) (ty_of answer.now)) (type_beta typed_rules (each ty_of types.now)) (ty_of answer.now)) }
 {
-    let frame = values::dims(function);
-    if values::count(frame) == 0 {
+    let frame = term_values::dims(function);
+    if term_values::count(frame) == 0 {
         return empty(alloc, frame, answer);
     }
-    let atoms = values::atoms(function);
+    let atoms = term_values::atoms(function);
     if frame.is_empty() {
         return bind_types(alloc, atoms, types, room);
     }
@@ -176,7 +176,7 @@ fn bind_types_of(alloc: Global, atom: &TermAtom, types: &[Ty], room: u32) -> Res
 {
     match atom {
         TermAtom::TypeFn(_, body) => {
-            let body = putting::with_types(alloc, body.get(), types, room)?;
+            let body = substitution::with_types(alloc, body.get(), types, room)?;
             Ok(Outcome::Goes(body))
         }
         TermAtom::Prim(primitive, None, None) => {
@@ -201,7 +201,7 @@ fn over_types(
     let mut cells = Vec::new(alloc);
     for atom in atoms {
         let cell = type_application(alloc, atom, types, answer, room)?;
-        cells.push(cell).map_err(|_| Memory)?;
+        cells.push(cell)?;
     }
     Ok(cells)
 }
@@ -219,7 +219,7 @@ fn type_application(
     let types = copied_types(alloc, types)?;
     let answer = answer.copy(alloc)?;
     let function = copied_scalar(alloc, atom, room)?;
-    Ok(terms::type_application(function, types, answer))
+    Ok(term_values::type_application(function, types, answer))
 }
 
 /// The rules of an `i-app`: `empty`, `map` and `i-beta`.
@@ -232,11 +232,11 @@ pub(crate) fn apply_indices(
 ) -> Result<Outcome, Memory>
     ensures { IfOk result (λ o. move_of o ≡ over_value typed_rules (term_of function.now) (λ a. TIndexApp a (each index_of indices.now) (ty_of answer.now)) (index_beta typed_rules (each index_of indices.now)) (ty_of answer.now)) }
 {
-    let frame = values::dims(function);
-    if values::count(frame) == 0 {
+    let frame = term_values::dims(function);
+    if term_values::count(frame) == 0 {
         return empty(alloc, frame, answer);
     }
-    let atoms = values::atoms(function);
+    let atoms = term_values::atoms(function);
     if frame.is_empty() {
         return bind_indices(alloc, atoms, indices, room);
     }
@@ -253,7 +253,7 @@ fn bind_indices(
 ) -> Result<Outcome, Memory>
     ensures { IfOk result (λ o. move_of o ≡ index_beta typed_rules (each index_of indices.now) (each cell_of atoms.now)) }
 {
-    match indices::kept(alloc, indices)? {
+    match term_values::kept(alloc, indices)? {
         None => Ok(Outcome::Trap(TrapKind::Size)),
         Some(values) => bind_values(alloc, atoms, values, room),
     }
@@ -287,7 +287,7 @@ fn bind_values_of(
 {
     match atom {
         TermAtom::IndexFn(_, body) => {
-            let body = putting::with_indices(alloc, body.get(), values.as_slice(), room)?;
+            let body = substitution::with_indices(alloc, body.get(), values.as_slice(), room)?;
             Ok(Outcome::Goes(body))
         }
         TermAtom::Prim(primitive, types, None) => {
@@ -329,7 +329,7 @@ fn over_indices(
     let mut cells = Vec::new(alloc);
     for atom in atoms {
         let cell = index_application(alloc, atom, indices, answer, room)?;
-        cells.push(cell).map_err(|_| Memory)?;
+        cells.push(cell)?;
     }
     Ok(cells)
 }
@@ -347,7 +347,7 @@ fn index_application(
     let indices = copied_indices(alloc, indices)?;
     let answer = answer.copy(alloc)?;
     let function = copied_scalar(alloc, atom, room)?;
-    Ok(terms::index_application(function, indices, answer))
+    Ok(term_values::index_application(function, indices, answer))
 }
 
 /// The rules of an `unbox`: `empty`, `map` and `unbox`.
@@ -361,11 +361,11 @@ pub(crate) fn unbox(
 ) -> Result<Outcome, Memory>
     ensures { IfOk result (λ o. move_of o ≡ over_value typed_rules (term_of boxed.now) (λ a. TUnbox sorts.now a (term_of body.now) (ty_of answer.now)) (unbox_one typed_rules (term_of body.now)) (ty_of answer.now)) }
 {
-    let frame = values::dims(boxed);
-    if values::count(frame) == 0 {
+    let frame = term_values::dims(boxed);
+    if term_values::count(frame) == 0 {
         return empty(alloc, frame, answer);
     }
-    let atoms = values::atoms(boxed);
+    let atoms = term_values::atoms(boxed);
     if frame.is_empty() {
         return open(alloc, atoms, body, room);
     }
@@ -389,8 +389,8 @@ fn open_one(alloc: Global, atom: &TermAtom, body: &TermExpr, room: u32) -> Resul
 {
     match atom {
         TermAtom::Boxed(indices, content, _) => {
-            let values = indices::kept(alloc, indices.as_slice())?.ok_or(Memory)?;
-            let body = putting::with_box(alloc, body, values.as_slice(), content.get(), room)?;
+            let values = term_values::kept(alloc, indices.as_slice())?.ok_or(Memory)?;
+            let body = substitution::with_box(alloc, body, values.as_slice(), content.get(), room)?;
             Ok(Outcome::Goes(body))
         }
         _ => Ok(Outcome::Lost),
@@ -411,7 +411,7 @@ fn over_boxes(
     let mut cells = Vec::new(alloc);
     for atom in atoms {
         let cell = unboxing(alloc, sorts, atom, body, answer, room)?;
-        cells.push(cell).map_err(|_| Memory)?;
+        cells.push(cell)?;
     }
     Ok(cells)
 }
@@ -427,11 +427,11 @@ fn unboxing(
 ) -> Result<TermExpr, Memory>
     ensures { IfOk result (λ t. term_of t ≡ TUnbox sorts.now (scalar_of (cell_of atom.now)) (term_of body.now) (ty_of answer.now)) }
 {
-    let sorts = Items::from_slice(alloc, sorts).map_err(|_| Memory)?;
+    let sorts = Items::from_slice(alloc, sorts)?;
     let answer = answer.copy(alloc)?;
     let boxed = copied_scalar(alloc, atom, room)?;
     match copied_part(alloc, body, room) {
-        Ok(body) => Ok(terms::unboxing(sorts, boxed, body, answer)),
+        Ok(body) => Ok(term_values::unboxing(sorts, boxed, body, answer)),
         Err(memory) => Err(memory),
     }
 }
@@ -441,7 +441,7 @@ fn framed(alloc: Global, frame: &[u32], cells: Vec<TermExpr>, cell: &Ty) -> Resu
     ensures { IfOk result (λ o. move_of o ≡ Goes (TFrame frame.now (terms_of cells.items) (ty_of cell.now))) }
 {
     match frame_parts(alloc, frame, cell) {
-        Ok((dims, cell)) => Ok(Outcome::Goes(terms::frame(dims, cells, cell))),
+        Ok((dims, cell)) => Ok(Outcome::Goes(term_values::frame(dims, cells, cell))),
         Err(memory) => Err(memory),
     }
 }
@@ -459,7 +459,7 @@ pub(crate) fn collapse(
     match cells {
         [] => Ok(Outcome::Lost),
         [first, ..] => {
-            let dims = joined(alloc, frame, values::dims(first))?;
+            let dims = joined(alloc, frame, term_values::dims(first))?;
             let atoms = joined_atoms(alloc, cells, room)?;
             let array = with_atoms(alloc, dims, atoms, cell)?;
             Ok(Outcome::Goes(array))
@@ -473,7 +473,7 @@ fn joined_atoms(alloc: Global, cells: &[TermExpr], room: u32) -> Result<Vec<Term
 {
     let mut atoms = Vec::new(alloc);
     for cell in cells {
-        push_copies(&mut atoms, alloc, values::atoms(cell), room)?;
+        push_copies(&mut atoms, alloc, term_values::atoms(cell), room)?;
     }
     Ok(atoms)
 }

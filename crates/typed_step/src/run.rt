@@ -5,14 +5,16 @@ ghost use Rattle.core_syntax.specs.Step.{unfolded};
 ghost use Rattle.core_syntax.specs.Typed.{typed_rules};
 ghost use Rattle.core_syntax.specs.Refine.{index_of};
 ghost use Rattle.core_syntax.specs.RefineTerms.{term_of, terms_of, cell_of, cells_of};
-ghost use Rattle.typed_step.specs.Outcomes.{move_of, fires, trapped};
+ghost use Rattle.typed_prims.specs.Outcomes.{move_of};
+ghost use Rattle.typed_step.specs.Outcomes.{fires, trapped};
 ghost use Rattle.typed_step.specs.Runs.{EndsHere, Fired, TermRun, TermsRun, FrameRun, BoxRun, CellRun, CellsRun, ApplicationRun, PartsRun};
 
-use crate::outcome::{End, Outcome};
+use crate::outcome::End;
+use crate::rules;
 use crate::rules::Application;
-use crate::{indices, rules, values};
 use core_syntax::{Index, Memory, Part, Parts, TermAtom, TermExpr, TrapKind};
 use std::alloc::Global;
+use typed_prims::Outcome;
 
 /// Steps a term until it rests, a step traps or the budget is spent. A term that nests deeper than `room` finds no memory.
 #[cycle(run)]
@@ -138,7 +140,7 @@ fn run_cells(
         End::Value => {}
         end => return Ok(end),
     }
-    if !values::has_room(dims, cells.as_slice()) {
+    if !term_values::has_room(dims, cells.as_slice()) {
         return Ok(trap(TrapKind::Size, budget));
     }
     let end = run_terms(alloc, defs, cells, budget, room)?;
@@ -207,7 +209,7 @@ fn run_box(
         End::Value => {}
         end => return Ok(end),
     }
-    if indices::all_fit(alloc, indices)? {
+    if term_values::all_fit(alloc, indices)? {
         return Ok(End::Value);
     }
     Ok(trap(TrapKind::Size, budget))

@@ -4,19 +4,20 @@ ghost use Rattle.core_syntax.specs.Lists.{each};
 ghost use Rattle.core_syntax.specs.RefineTerms.{term_of};
 ghost use Rattle.typed_step.specs.Steps.{Stepped, Reduced, IsEnd, Looked, Came, IsTrap};
 
-use crate::closed::{Closed, DEEPEST, Next};
+use crate::closed::{Closed, Next};
 use crate::outcome::End;
 use crate::run::run;
 use core_syntax::{Memory, TermExpr, TrapKind};
 use sqlite_items::Items;
 use std::alloc::Global;
+use term_values::DEEPEST;
 
 /// One step of a closed term (docs/LANGUAGE.md, "Reduction"): it is a value, it traps, or it goes to the next term.
 ///
 /// # Errors
 ///
-/// Where there is no memory; where a term or a type would nest too deep (docs/LANGUAGE.md, "Limits"); and at `reduce`, `fold`,
-/// `iota`, `reshape`, `ravel` and `filter`, which aren't done yet. The term is then given up.
+/// Where there is no memory, and where a term or a type would nest too deep (docs/LANGUAGE.md, "Limits"). The term is then given
+/// up.
 pub fn step(alloc: Global, closed: Closed) -> Result<Next, Memory>
     ensures { IfOk result (λ next. Stepped (each term_of closed.defs) (term_of closed.term) next) }
 {

@@ -9,13 +9,12 @@ ghost use Rattle.core_syntax.specs.RefineTerms.{term_of, cell_of, cells_of};
 ghost use Rattle.core_syntax.specs.Syntax.{Ty};
 ghost use Rattle.core_syntax.specs.Typed.{closed_value, typed_rules};
 
-use crate::closed::{Closed, DEEPEST};
-use crate::indices::{number, shape_dims};
-use crate::values::{atoms, dims};
+use crate::closed::Closed;
 use array_values::{Array, ArrayOf, BoxedValue, IndexValue, Shared, Value};
 use core_syntax::{Index, IndexForm, Memory, TermAtom, TermExpr};
 use sqlite_items::Items;
 use std::alloc::Global;
+use term_values::{DEEPEST, atoms, dims, number, shape_dims};
 
 /// The array of a value of a printable type (docs/LANGUAGE.md, "Values"): its dims and its atoms, without types, and with the
 /// values of its boxes' indices.
@@ -49,7 +48,7 @@ fn atoms_of(alloc: Global, atoms: &[TermAtom], room: u32) -> Result<Vec<Value>, 
     let mut values = Vec::new(alloc);
     for atom in atoms {
         let value = atom_of(alloc, atom, room)?;
-        values.push(value).map_err(|_| Memory)?;
+        values.push(value)?;
     }
     Ok(values)
 }
@@ -95,7 +94,7 @@ fn indices_of(alloc: Global, indices: &[Index]) -> Result<Items<IndexValue>, Mem
     let mut values = Vec::new(alloc);
     for index in indices {
         let value = index_value(alloc, index)?;
-        values.push(value).map_err(|_| Memory)?;
+        values.push(value)?;
     }
     Ok(Items::from_vec(values))
 }

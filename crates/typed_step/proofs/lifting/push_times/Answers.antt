@@ -1,6 +1,6 @@
 use Rattle.std.proofs.Common.{◌≡◌, refl, ap, ◌∙◌, ◌++◌, append_assoc, replicate, arith}
 use Rattle.core_syntax.specs.Lists.{joined}
-use Rattle.typed_step.proofs.ArrayCuts.{repeated_more}
+use Rattle.prim_kernels.proofs.ArrayCuts.{repeated_more}
 use Rattle.typed_step.proofs.lifting.push_times.Goals as goal
 
 pub loop-preserved : goal.loop-preserved

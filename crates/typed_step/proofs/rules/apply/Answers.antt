@@ -6,7 +6,7 @@ use Rattle.core_syntax.specs.RefineTerms.{term_of}
 use Rattle.core_syntax.specs.Rules.{dims_of, apply_at}
 use Rattle.core_syntax.specs.Typed.{typed_rules}
 use Rattle.typed_step.specs.Frames.{fronts}
-use Rattle.typed_step.specs.Outcomes.{move_of}
+use Rattle.typed_prims.specs.Outcomes.{move_of}
 use Rattle.typed_step.proofs.ApplyRules.{frames_are, frame_is}
 use Rattle.typed_step.proofs.rules.apply.Goals as goal
 

@@ -3,7 +3,7 @@ use Rattle.core_syntax.specs.Lists.{each}
 use Rattle.core_syntax.specs.Refine.{index_of}
 use Rattle.core_syntax.specs.RefineTerms.{cell_of}
 use Rattle.core_syntax.specs.Typed.{closed_value}
-use Rattle.typed_step.specs.Outcomes.{move_of}
+use Rattle.typed_prims.specs.Outcomes.{move_of}
 use Rattle.typed_step.proofs.BindAtoms.{values_kept, all_fitting}
 use Rattle.typed_step.proofs.rules.bind_indices.Goals as goal
 

@@ -5,7 +5,7 @@ use Rattle.core_syntax.specs.RefineTerms.{term_of, cell_of}
 use Rattle.core_syntax.specs.Rules.{unbox_one}
 use Rattle.core_syntax.specs.Terms.{TUnbox}
 use Rattle.core_syntax.specs.Typed.{typed_rules}
-use Rattle.typed_step.specs.Outcomes.{move_of}
+use Rattle.typed_prims.specs.Outcomes.{move_of}
 use Rattle.typed_step.proofs.BindRules.{over_nothing, over_one, over_each}
 use Rattle.typed_step.proofs.rules.unbox.Goals as goal
 

@@ -7,7 +7,7 @@ use Rattle.core_syntax.specs.declared.index.Index.{Index}
 use Rattle.core_syntax.specs.Lists.{each}
 use Rattle.core_syntax.specs.Refine.{index_of}
 use Rattle.core_syntax.specs.RefineTerms.{term_of, terms_of, cell_of, cells_of}
-use Rattle.typed_step.specs.Frames.{FirstHasRoom}
+use Rattle.term_values.specs.Rooms.{FirstHasRoom}
 use Rattle.typed_step.specs.Runs.{TermRun, FrameRun, BoxRun, CellRun, CellsRun, PartsRun, ApplicationRun}
 use Rattle.typed_step.proofs.Ways.{stops, stopped_at, fired_at, fired_less, ended_at}
 use Rattle.typed_step.proofs.TermWays as terms

@@ -1,7 +1,7 @@
 use Rattle.std.proofs.Common.{◌≡◌, subst, IfOk}
 use Rattle.core_syntax.specs.Lists.{each}
 use Rattle.core_syntax.specs.RefineTerms.{term_of}
-use Rattle.typed_step.specs.Outcomes.{move_of}
+use Rattle.typed_prims.specs.Outcomes.{move_of}
 use Rattle.typed_step.proofs.TreeRules.{frame_fires, app_fires, type_app_fires, index_app_fires, unbox_fires}
 use Rattle.typed_step.proofs.run.rule.Goals as goal
 

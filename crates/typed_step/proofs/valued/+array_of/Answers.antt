@@ -5,7 +5,7 @@ use Rattle.core_syntax.specs.Lists.{each}
 use Rattle.core_syntax.specs.Refine.{index_of}
 use Rattle.core_syntax.specs.RefineTerms.{cell_of, term_of}
 use Rattle.core_syntax.specs.Typed.{closed_value, typed_rules}
-use Rattle.typed_step.proofs.ValueArrays.{SomeAtomFits, atoms_fit, dims_form, is_full, made_is, atom_fits, no_function, box_keeps, box_content, box_is, boxed_cell, matched_more, matched_through}
+use Rattle.typed_start.proofs.ValueArrays.{SomeAtomFits, atoms_fit, dims_form, is_full, made_is, atom_fits, no_function, box_keeps, box_content, box_is, boxed_cell, matched_more, matched_through}
 use Rattle.typed_step.proofs.valued.+array_of.Goals as goal
 
 pub array_of-atoms_of-requires : goal.array_of-atoms_of-requires

@@ -3,7 +3,7 @@ use Rattle.array_values.specs.Data.{atom_data}
 use Rattle.core_syntax.specs.Data.{atom_of_cell}
 use Rattle.core_syntax.specs.RefineTerms.{cell_of}
 use Rattle.core_syntax.specs.Typed.{typed_rules}
-use Rattle.typed_step.proofs.ValueArrays.{Matched}
+use Rattle.typed_start.proofs.ValueArrays.{Matched}
 use Rattle.typed_step.proofs.valued.+array_of.Given as goal
 
 abbrev pub decreases-array_of : goal.decreases-array_of

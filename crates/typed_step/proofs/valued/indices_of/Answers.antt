@@ -3,7 +3,7 @@ use Rattle.array_values.specs.Data.{index_data}
 use Rattle.core_syntax.specs.Lists.{each}
 use Rattle.core_syntax.specs.Refine.{index_of}
 use Rattle.core_syntax.specs.Typed.{closed_value}
-use Rattle.typed_step.proofs.ValueArrays.{index_fits, matched_more, matched_through}
+use Rattle.typed_start.proofs.ValueArrays.{index_fits, matched_more, matched_through}
 use Rattle.typed_step.proofs.valued.indices_of.Goals as goal
 
 pub index_value-requires : goal.index_value-requires

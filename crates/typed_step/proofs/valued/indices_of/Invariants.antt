@@ -1,7 +1,7 @@
 use Rattle.array_values.specs.Data.{index_data}
 use Rattle.core_syntax.specs.Refine.{index_of}
 use Rattle.core_syntax.specs.Typed.{closed_value}
-use Rattle.typed_step.proofs.ValueArrays.{Matched}
+use Rattle.typed_start.proofs.ValueArrays.{Matched}
 use Rattle.typed_step.proofs.valued.indices_of.Given as goal
 
 abbrev pub invariant-loop-index : goal.invariant-loop-index

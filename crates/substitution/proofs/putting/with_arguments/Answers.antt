@@ -1,0 +1,10 @@
+use Rattle.std.proofs.Common.{◌≡◌, subst, IfOk}
+use Rattle.core_syntax.specs.RefineTerms.{term_of}
+use Rattle.core_syntax.specs.TermPut.{term_put}
+use Rattle.core_syntax.specs.Typed.{typed_rules}
+use Rattle.type_substitution.specs.Putting.{terms_at}
+use Rattle.type_substitution.proofs.Fates.{put_nothing}
+use Rattle.substitution.proofs.putting.with_arguments.Goals as goal
+
+pub returns : goal.returns
+returns c = subst (λ w. IfOk c.put.result (λ t. term_of t ≡ w)) (λ i. term_put typed_rules (put_nothing i) (terms_at 0 c.args.args.now) (term_of c.args.body.now)) c.put.ensures

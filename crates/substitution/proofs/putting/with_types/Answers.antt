@@ -1,0 +1,9 @@
+use Rattle.std.proofs.Common.{◌≡◌, subst, IfOk}
+use Rattle.core_syntax.specs.RefineTerms.{term_of}
+use Rattle.core_syntax.specs.TermPut.{term_put}
+use Rattle.core_syntax.specs.Typed.{typed_rules}
+use Rattle.type_substitution.proofs.Fates.{put_types_only, no_terms_at}
+use Rattle.substitution.proofs.putting.with_types.Goals as goal
+
+pub returns : goal.returns
+returns c = subst (λ w. IfOk c.put.result (λ t. term_of t ≡ w)) (λ i. term_put typed_rules (put_types_only c.args.types.now i) (no_terms_at i) (term_of c.args.body.now)) c.put.ensures

@@ -1,0 +1,8 @@
+use Rattle.std.proofs.Common.{◌∙◌}
+use Rattle.core_syntax.specs.RefineTerms.{term_of}
+use Rattle.core_syntax.specs.Terms.{TFn}
+use Rattle.core_syntax.proofs.RowsOfTerms.{of_fn}
+use Rattle.substitution.proofs.rebuilt.function.Goals as goal
+
+pub returns : goal.returns
+returns c = of_fn c.in_ok-inputs.inputs c.in_ok-answer.answer c.args.body ∙ (λ i. TFn (record { inputs = c.in_ok-inputs.ensures i; result = c.in_ok-answer.ensures i }) (term_of c.args.body))

@@ -1,0 +1,5 @@
+pub mod Answers
+pub mod ArrayAnswers
+pub mod Boxes
+pub mod Folds
+pub mod Outcomes

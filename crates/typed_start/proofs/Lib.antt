@@ -1,0 +1,3 @@
+pub mod DataTerms
+pub mod ReadRows
+pub mod ValueArrays

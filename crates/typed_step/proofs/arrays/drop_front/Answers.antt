@@ -1,8 +1,0 @@
-use Rattle.std.proofs.Common.{◌∙◌}
-use Rattle.typed_step.proofs.ArrayRows.{dropped_end}
-use Rattle.typed_step.proofs.arrays.drop_front.Goals as goal
-
-pub returns-in_ok-atoms-in-len1-up : goal.returns-in_ok-atoms-in-len1-up
-returns-in_ok-atoms-in-len1-up c = λ r.
-    dropped_end r c.args.a.now c.dims.result.now c.in_ok-dims-in-len1-up.dims c.atoms.result.now c.in_ok-atoms-in-len1-up.atoms.items c.args.count c.args.left c.dims.ensures c.atoms.ensures c.in-len1-up.len_at_least
-    c.in_ok-dims-in-len1-up.ensures (c.in_ok-atoms-in-len1-up.ensures ∙ c.behind.ensures)

@@ -1,5 +1,0 @@
-use Rattle.typed_step.proofs.Kepts.{Keeping}
-use Rattle.typed_step.proofs.indices.kept.Given as goal
-
-abbrev pub invariant-loop-index : goal.invariant-loop-index
-invariant-loop-index l = Keeping l.values.items l.indices l.index-index

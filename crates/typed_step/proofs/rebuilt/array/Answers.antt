@@ -1,7 +1,0 @@
-use Rattle.std.proofs.Common.{◌∙◌, ap}
-use Rattle.core_syntax.specs.RefineTerms.{cells_of}
-use Rattle.core_syntax.specs.Terms.{TArray}
-use Rattle.typed_step.proofs.rebuilt.array.Goals as goal
-
-pub returns : goal.returns
-returns c = c.array.ensures ∙ ap (λ ds. TArray ds (cells_of c.args.atoms.items)) c.in_ok-dims.ensures

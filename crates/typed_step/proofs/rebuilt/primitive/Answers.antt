@@ -1,5 +1,0 @@
-use Rattle.core_syntax.specs.Terms.{TPrim}
-use Rattle.typed_step.proofs.rebuilt.primitive.Goals as goal
-
-pub returns : goal.returns
-returns c = λ i. TPrim c.args.primitive (c.in_ok-types.ensures i) (c.in_ok-indices.ensures i)

@@ -1,5 +1,0 @@
-use Rattle.std.proofs.Common.{◌≡◌, ◌++◌, take}
-use Rattle.typed_step.proofs.terms.joined.Given as goal
-
-abbrev pub invariant-loop-dim : goal.invariant-loop-dim
-invariant-loop-dim l = l.dims.items ≡ l.front ++ take l.dim-index l.back
