@@ -120,3 +120,10 @@ pub(crate) fn too_many(span: Span) -> NameRefusal
         span,
     }
 }
+
+/// A refusal of what stands behind a part that was read, which is let go.
+pub(crate) fn given_up<T: Drop>(refusal: NameRefusal, _read: T) -> NameRefusal
+    ensures { result ≡ refusal }
+{
+    refusal
+}

@@ -1,4 +1,4 @@
-ghost use Rattle.std.specs.Prelude.{◌≡◌, ◌+◌, length, OnOk};
+ghost use Rattle.std.specs.Prelude.{◌≡◌, ◌+◌, length, Ok, OnOk};
 ghost use Rattle.core_syntax.specs.Refine.{expr_of, exprs_of, atom_of, atoms_of};
 ghost use Rattle.sexp_reader.specs.Forms.{form_of, forms_of, form_size, forms_size};
 ghost use Rattle.name_resolve.specs.Answers.{Answers};
@@ -23,7 +23,7 @@ ghost use Rattle.name_resolve.specs.Unboxings.{unboxing_of, inside};
 
 use crate::atoms::{scalar, token, token_atom};
 use crate::dims::{dims, has_no_item};
-use crate::errors::{NameRefusal, malformed};
+use crate::errors::{NameRefusal, given_up, malformed};
 use crate::headers::{Argument, Header, Literal, apply, empty_literal, finish, read_header};
 use crate::lists::{first_two, listed};
 use crate::scopes::Scopes;
@@ -100,6 +100,19 @@ fn atom_expr<'a>(
     scalar(alloc, at, atom)
 }
 
+/// The application of an expression to others.
+fn application(
+    alloc: Global,
+    at: Span,
+    function: Expr,
+    args: Items<Expr>,
+) -> Result<Expr, NameRefusal>
+    ensures { Answers expr_of result (Ok (App at (expr_of function) (exprs_of args))) }
+{
+    let application = Expr::application(alloc, at, function, args)?;
+    Ok(application)
+}
+
 /// `(e e e ...)`
 #[cycle(exprs)]
 fn app<'a>(
@@ -114,9 +127,10 @@ fn app<'a>(
     ensures same { OnOk result (scopes.new ≡ scopes.old) }
 {
     let function = expr(alloc, scopes, head)?;
-    let args = exprs(alloc, scopes, args)?;
-    let application = Expr::application(alloc, at, function, args)?;
-    Ok(application)
+    match exprs(alloc, scopes, args) {
+        Ok(args) => application(alloc, at, function, args),
+        Err(refusal) => Err(given_up(refusal, function)),
+    }
 }
 
 /// `(array ..)` and `(frame ..)`
@@ -286,7 +300,11 @@ fn unbox<'a>(
 {
     let unboxing = read_unboxing(alloc, at, first, rest)?;
     let boxed = expr(alloc, scopes, unboxing.boxed)?;
-    let answer = array_ty(alloc, scopes, unboxing.answer)?;
-    let body = unboxed_body(alloc, scopes, &unboxing)?;
-    finish_box(alloc, at, unboxing.bound.len(), boxed, answer, body)
+    match array_ty(alloc, scopes, unboxing.answer) {
+        Ok(answer) => match unboxed_body(alloc, scopes, &unboxing) {
+            Ok(body) => finish_box(alloc, at, unboxing.bound.len(), boxed, answer, body),
+            Err(refusal) => Err(given_up(given_up(refusal, answer), boxed)),
+        },
+        Err(refusal) => Err(given_up(refusal, boxed)),
+    }
 }

@@ -1,7 +1,8 @@
 // What stands around the parts of a list that are expressions.
-ghost use Rattle.std.specs.Prelude.{◌≡◌, ◌+◌, ◌≤◌, ◌==◌, length, true, OnOk, IfOk};
-ghost use Rattle.core_syntax.specs.Lists.{product};
-ghost use Rattle.core_syntax.specs.Refine.{expr_of, atom_of};
+ghost use Rattle.std.specs.Prelude.{◌≡◌, ◌+◌, ◌≤◌, ◌==◌, length, true, Ok, OnOk, IfOk};
+ghost use Rattle.core_syntax.specs.Lists.{each, product};
+ghost use Rattle.core_syntax.specs.Refine.{index_of, ty_of, expr_of, atom_of};
+ghost use Rattle.core_syntax.specs.Syntax.{TypeApp, IndexApp};
 ghost use Rattle.sexp_reader.specs.Forms.{form_of, forms_of, form_size, forms_size};
 ghost use Rattle.name_resolve.specs.declared.words.AtomWord.TheVariants as word;
 ghost use Rattle.name_resolve.specs.Answers.{Answers};
@@ -10,7 +11,7 @@ ghost use Rattle.name_resolve.specs.HeaderSizes.{header_size, HasTypeRoom};
 ghost use Rattle.name_resolve.specs.Scopes.{HasRoom};
 
 use crate::binders::{Binder, Listing, bound_names};
-use crate::errors::{NameRefusal, malformed};
+use crate::errors::{NameRefusal, given_up, malformed};
 use crate::indices::indices;
 use crate::lists::{one, some_listed, two};
 use crate::scopes::Scopes;
@@ -259,6 +260,27 @@ pub fn empty_literal<'a>(
     }
 }
 
+/// The application of an expression to types.
+fn on_types(alloc: Global, at: Span, function: Expr, types: Items<Ty>) -> Result<Expr, NameRefusal>
+    ensures { Answers expr_of result (Ok (TypeApp at (expr_of function) (each ty_of types))) }
+{
+    let application = Expr::type_application(alloc, at, function, types)?;
+    Ok(application)
+}
+
+/// The application of an expression to indices.
+fn on_indices(
+    alloc: Global,
+    at: Span,
+    function: Expr,
+    indices: Items<Index>,
+) -> Result<Expr, NameRefusal>
+    ensures { Answers expr_of result (Ok (IndexApp at (expr_of function) (each index_of indices))) }
+{
+    let application = Expr::index_application(alloc, at, function, indices)?;
+    Ok(application)
+}
+
 /// The application of an expression to types or to indices.
 pub fn apply<'a>(
     alloc: Global,
@@ -273,15 +295,13 @@ pub fn apply<'a>(
     ensures same { OnOk result (scopes.new ≡ scopes.old) }
 {
     match argument {
-        Argument::Type => {
-            let types = types(alloc, scopes, rest)?;
-            let application = Expr::type_application(alloc, at, function, types)?;
-            Ok(application)
-        }
-        Argument::Index => {
-            let indices = indices(alloc, scopes.indices(), rest)?;
-            let application = Expr::index_application(alloc, at, function, indices)?;
-            Ok(application)
-        }
+        Argument::Type => match types(alloc, scopes, rest) {
+            Ok(types) => on_types(alloc, at, function, types),
+            Err(refusal) => Err(given_up(refusal, function)),
+        },
+        Argument::Index => match indices(alloc, scopes.indices(), rest) {
+            Ok(indices) => on_indices(alloc, at, function, indices),
+            Err(refusal) => Err(given_up(refusal, function)),
+        },
     }
 }

@@ -1,7 +1,7 @@
 ghost use Rattle.std.specs.Prelude.{◌≡◌, ◌+◌, Ok, OnOk};
 ghost use Rattle.core_syntax.specs.Kinds.{is_atom_kind};
 ghost use Rattle.core_syntax.specs.Lists.{each};
-ghost use Rattle.core_syntax.specs.Refine.{ty_of, tys_of};
+ghost use Rattle.core_syntax.specs.Refine.{index_of, ty_of, tys_of};
 ghost use Rattle.core_syntax.specs.Syntax.{Arr};
 ghost use Rattle.sexp_reader.specs.Forms.{form_of, forms_of, form_size, forms_size};
 ghost use Rattle.name_resolve.specs.Answers.{Answers};
@@ -29,7 +29,7 @@ ghost use Rattle.name_resolve.specs.TypeForms.{
 };
 
 use crate::binders::{Listing, bound_names};
-use crate::errors::{NameRefusal, malformed, unknown};
+use crate::errors::{NameRefusal, given_up, malformed, unknown};
 use crate::indices::index;
 use crate::lists::{pair_of, some_listed, three};
 use crate::scopes::Scopes;
@@ -166,6 +166,14 @@ pub fn ty<'a>(alloc: Global, scopes: &mut Scopes<'a>, form: &'a Sexp) -> Result<
     }
 }
 
+/// The array type of these parts.
+fn array_of(alloc: Global, at: Span, element: Ty, shape: Index) -> Result<Ty, NameRefusal>
+    ensures { Answers ty_of result (Ok (Arr at (ty_of element) (index_of shape))) }
+{
+    let array = Ty::array(alloc, at, element, shape)?;
+    Ok(array)
+}
+
 /// `(A T i)`
 #[cycle(types)]
 fn array<'a>(
@@ -180,9 +188,10 @@ fn array<'a>(
     ensures same { OnOk result (scopes.new ≡ scopes.old) }
 {
     let element = ty(alloc, scopes, element)?;
-    let shape = index(alloc, scopes.indices(), shape)?;
-    let array = Ty::array(alloc, at, element, shape)?;
-    Ok(array)
+    match index(alloc, scopes.indices(), shape) {
+        Ok(shape) => array_of(alloc, at, element, shape),
+        Err(refusal) => Err(given_up(refusal, element)),
+    }
 }
 
 /// `(-> (T T ...) T)`

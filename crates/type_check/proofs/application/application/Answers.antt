@@ -1,5 +1,5 @@
 use Rattle.core_syntax.specs.Refine.{index_of, ty_of, tys_of}
-use Rattle.type_check.proofs.ApplyLemmas.{app_follows, refused_frames}
+use Rattle.type_check.proofs.exits.ApplyLemmas.{app_follows, refused_frames}
 use Rattle.type_check.proofs.application.application.Goals as goal
 
 pub returns-in-Some : goal.returns-in-Some

@@ -1,7 +1,7 @@
 use Rattle.std.proofs.Common.{◌≡◌, ◌∙◌, refl, sym, ap, subst, true≢false}
 use Rattle.core_syntax.specs.Refine.{ty_of}
 use Rattle.core_syntax.specs.NormTypes.{norm_ty}
-use Rattle.type_check.proofs.ArgLemmas.{argument_tested, argument_differs, part_normal}
+use Rattle.type_check.proofs.one_by_one.ArgLemmas.{argument_tested, argument_differs, part_normal}
 use Rattle.type_check.proofs.application.argument.Goals as goal
 
 pub returns-then-same_part : goal.returns-then-same_part

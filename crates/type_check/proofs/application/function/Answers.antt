@@ -1,6 +1,6 @@
 use Rattle.std.proofs.Common.{◌≡◌, ◌∙◌, sym, ap}
 use Rattle.core_syntax.specs.Refine.{index_of, ty_of, tys_of}
-use Rattle.type_check.proofs.ApplyLemmas.{function_is, refused_count, items_length}
+use Rattle.type_check.proofs.exits.ApplyLemmas.{function_is, refused_count, items_length}
 use Rattle.type_check.proofs.application.function.Goals as goal
 
 pub returns-then-inputs-count-clause-refused : goal.returns-then-inputs-count-clause-refused

@@ -3,7 +3,7 @@ use Rattle.core_syntax.specs.Refine.{ty_of, tys_of}
 use Rattle.core_syntax.specs.Norm.{word_tree}
 use Rattle.core_syntax.specs.Notes.{app_note}
 use Rattle.type_check.specs.Forms.{Follows}
-use Rattle.type_check.proofs.ArrayLemmas.{framed_one}
+use Rattle.type_check.proofs.trees.ArrayLemmas.{framed_one}
 use Rattle.type_check.proofs.application.in_frame.Goals as goal
 
 pub returns-in-Ok : goal.returns-in-Ok

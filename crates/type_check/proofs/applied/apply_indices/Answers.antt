@@ -7,10 +7,10 @@ use Rattle.type_equal.specs.Put.{index_tree}
 use Rattle.type_check.specs.Contexts.{IsSound}
 use Rattle.type_check.specs.Found.{Found}
 use Rattle.type_check.specs.Written.{AreNormalIndicesOf}
-use Rattle.type_check.proofs.FormLemmas.{array_read, pi_read, length_each}
-use Rattle.type_check.proofs.NotForms.{not_pi as another}
-use Rattle.type_check.proofs.Free.{bare, pi_body_small, given_indices_small}
-use Rattle.type_check.proofs.IndexAppRule.{not_pi, miscounted, ill_given, applied}
+use Rattle.type_check.proofs.normal_forms.FormLemmas.{array_read, pi_read, length_each}
+use Rattle.type_check.proofs.normal_forms.NotForms.{not_pi as another}
+use Rattle.type_check.proofs.normal_forms.Free.{bare, pi_body_small, given_indices_small}
+use Rattle.type_check.proofs.exits.IndexAppRule.{not_pi, miscounted, ill_given, applied}
 use Rattle.type_check.proofs.applied.apply_indices.Goals as goal
 
 pub returns-then-not-is_product : goal.returns-then-not-is_product

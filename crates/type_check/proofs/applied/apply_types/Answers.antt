@@ -6,11 +6,11 @@ use Rattle.core_syntax.specs.Subst.{with_types}
 use Rattle.type_check.specs.Contexts.{IsSound}
 use Rattle.type_check.specs.Found.{Found}
 use Rattle.type_check.specs.Written.{AreNormalAtomsOf}
-use Rattle.type_check.proofs.Loops.{each_inside}
-use Rattle.type_check.proofs.FormLemmas.{array_read, forall_read, length_each}
-use Rattle.type_check.proofs.NotForms.{not_forall as another}
-use Rattle.type_check.proofs.Free.{bare, bare_scope, forall_body_small, given_types_small}
-use Rattle.type_check.proofs.TypeAppRule.{not_forall, miscounted, unwritten, applied}
+use Rattle.type_check.proofs.one_by_one.Loops.{each_inside}
+use Rattle.type_check.proofs.normal_forms.FormLemmas.{array_read, forall_read, length_each}
+use Rattle.type_check.proofs.normal_forms.NotForms.{not_forall as another}
+use Rattle.type_check.proofs.normal_forms.Free.{bare, bare_scope, forall_body_small, given_types_small}
+use Rattle.type_check.proofs.exits.TypeAppRule.{not_forall, miscounted, unwritten, applied}
 use Rattle.type_check.proofs.applied.apply_types.Goals as goal
 
 pub returns-then-not-is_universal-clause-concludes : goal.returns-then-not-is_universal-clause-concludes

@@ -3,8 +3,8 @@ use Rattle.core_syntax.specs.NormTypes.{norm_ty, measure_ty}
 use Rattle.core_syntax.specs.Refine.{index_of, ty_of}
 use Rattle.core_syntax.specs.Subst.{kept, put_all, with_types}
 use Rattle.type_check.specs.Framed.{framed}
-use Rattle.type_check.proofs.PutArrays.{array_put}
-use Rattle.type_check.proofs.FramedLemmas.{instance_refused}
+use Rattle.type_check.proofs.substitution.PutArrays.{array_put}
+use Rattle.type_check.proofs.trees.FramedLemmas.{instance_refused}
 use Rattle.type_check.proofs.applied.with_given_types.Goals as goal
 
 pub returns-in-Err : goal.returns-in-Err

@@ -3,7 +3,7 @@ use Rattle.core_syntax.specs.Refine.{ty_of}
 use Rattle.core_syntax.specs.Notes.{note_of}
 use Rattle.core_syntax.specs.Prims.{array_of}
 use Rattle.core_syntax.specs.Typing.{numbers}
-use Rattle.type_check.proofs.ArrayLemmas.{none_follows}
+use Rattle.type_check.proofs.trees.ArrayLemmas.{none_follows}
 use Rattle.type_check.proofs.arrays.empty_literal.Goals as goal
 
 pub returns-in-Ok : goal.returns-in-Ok

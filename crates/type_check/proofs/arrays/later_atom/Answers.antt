@@ -1,6 +1,6 @@
 use Rattle.std.proofs.Common.{◌≡◌, ◌∙◌, refl, sym, true≢false}
 use Rattle.core_syntax.specs.Refine.{ty_of}
-use Rattle.type_check.proofs.PartsTested.{one_atom, atom_differs}
+use Rattle.type_check.proofs.one_by_one.PartsTested.{one_atom, atom_differs}
 use Rattle.type_check.proofs.arrays.later_atom.Goals as goal
 
 pub returns-then-same_part : goal.returns-then-same_part

@@ -1,6 +1,6 @@
 use Rattle.core_syntax.specs.Refine.{ty_of}
 use Rattle.core_syntax.specs.Notes.{note_of}
-use Rattle.type_check.proofs.ArrayLemmas.{literal_follows}
+use Rattle.type_check.proofs.trees.ArrayLemmas.{literal_follows}
 use Rattle.type_check.proofs.arrays.literal.Goals as goal
 
 pub returns-in-Ok : goal.returns-in-Ok

@@ -3,9 +3,9 @@ use Rattle.core_syntax.specs.Lists.{each}
 use Rattle.core_syntax.specs.NormTypes.{measure_ty}
 use Rattle.core_syntax.specs.Refine.{index_of, ty_of}
 use Rattle.core_syntax.proofs.TyRows.{is_sigma}
-use Rattle.type_check.proofs.FormLemmas.{sum_fits, sum_few, length_each}
-use Rattle.type_check.proofs.Free.{bare, sum_body_small, given_indices_small}
-use Rattle.type_check.proofs.BoxRule.{sum_ill_given, content_told}
+use Rattle.type_check.proofs.normal_forms.FormLemmas.{sum_fits, sum_few, length_each}
+use Rattle.type_check.proofs.normal_forms.Free.{bare, sum_body_small, given_indices_small}
+use Rattle.type_check.proofs.exits.BoxRule.{sum_ill_given, content_told}
 use Rattle.type_check.specs.Written.{AreNormalIndicesOf}
 use Rattle.type_check.proofs.boxes.box_content.Goals as goal
 

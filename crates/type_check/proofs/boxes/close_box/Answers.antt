@@ -1,7 +1,7 @@
 use Rattle.std.proofs.Common.{◌≡◌, true}
 use Rattle.core_syntax.specs.Refine.{ty_of}
-use Rattle.type_check.proofs.FormLemmas.{normal_read}
-use Rattle.type_check.proofs.BoxRule.{closed, misfits}
+use Rattle.type_check.proofs.normal_forms.FormLemmas.{normal_read}
+use Rattle.type_check.proofs.exits.BoxRule.{closed, misfits}
 use Rattle.type_check.proofs.boxes.close_box.Goals as goal
 
 pub returns-then-same : goal.returns-then-same

@@ -1,8 +1,8 @@
 use Rattle.std.proofs.Common.{◌≡◌, ◌∙◌, sym, ap, subst, true}
 use Rattle.core_syntax.specs.NormTypes.{norm_ty}
 use Rattle.core_syntax.specs.Refine.{ty_of, index_of}
-use Rattle.type_check.proofs.FormLemmas.{normal_read, array_read}
-use Rattle.type_check.proofs.UnboxRule.{closed, misfits, one_frame, framed_again}
+use Rattle.type_check.proofs.normal_forms.FormLemmas.{normal_read, array_read}
+use Rattle.type_check.proofs.exits.UnboxRule.{closed, misfits, one_frame, framed_again}
 use Rattle.type_check.proofs.boxes.close_unbox.Goals as goal
 
 pub returns-then-same : goal.returns-then-same

@@ -2,9 +2,9 @@ use Rattle.std.proofs.Common.{◌∙◌, sym, subst, []}
 use Rattle.core_syntax.specs.Lists.{onto, each}
 use Rattle.core_syntax.specs.Kinds.{IsWellFormed}
 use Rattle.core_syntax.specs.Refine.{index_of, ty_of}
-use Rattle.type_check.proofs.Free.{bare, bare_scope}
-use Rattle.type_check.proofs.WrittenLemmas.{rescoped}
-use Rattle.type_check.proofs.BoxRule.{ill_written}
+use Rattle.type_check.proofs.normal_forms.Free.{bare, bare_scope}
+use Rattle.type_check.proofs.trees.WrittenLemmas.{rescoped}
+use Rattle.type_check.proofs.exits.BoxRule.{ill_written}
 use Rattle.type_check.proofs.boxes.open_box.Goals as goal
 
 pub box_content-requires-clause-fits : goal.box_content-requires-clause-fits

@@ -1,10 +1,10 @@
 use Rattle.std.proofs.Common.{◌≡◌, refl, ap, subst, length, arith}
 use Rattle.core_syntax.specs.Refine.{index_of, ty_of}
 use Rattle.type_check.specs.Found.{Found}
-use Rattle.type_check.proofs.FormLemmas.{array_read, sigma_read}
-use Rattle.type_check.proofs.NotForms.{not_sigma as another}
-use Rattle.type_check.proofs.Free.{bare, bare_scope, written_moves}
-use Rattle.type_check.proofs.UnboxRule.{no_boxes, miscounted, unwritten, opens_told}
+use Rattle.type_check.proofs.normal_forms.FormLemmas.{array_read, sigma_read}
+use Rattle.type_check.proofs.normal_forms.NotForms.{not_sigma as another}
+use Rattle.type_check.proofs.normal_forms.Free.{bare, bare_scope, written_moves}
+use Rattle.type_check.proofs.exits.UnboxRule.{no_boxes, miscounted, unwritten, opens_told}
 use Rattle.type_check.proofs.boxes.open_unbox.Goals as goal
 
 pub returns-then-not-is_sum-clause-opens : goal.returns-then-not-is_sum-clause-opens

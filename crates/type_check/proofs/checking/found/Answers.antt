@@ -1,5 +1,5 @@
 use Rattle.core_syntax.specs.Wholes.{program_of}
-use Rattle.type_check.proofs.ProgramParts.{findings_checked}
+use Rattle.type_check.proofs.whole_programs.ProgramParts.{findings_checked}
 use Rattle.type_check.proofs.checking.found.Goals as goal
 
 pub returns-in-Ok-clause-checked : goal.returns-in-Ok-clause-checked

@@ -1,4 +1,4 @@
-use Rattle.type_check.proofs.Concluding.{concluded, refused}
+use Rattle.type_check.proofs.exits.Concluding.{concluded, refused}
 use Rattle.type_check.proofs.conclusion.conclusion.Goals as goal
 
 pub returns-in-Ok : goal.returns-in-Ok

@@ -17,12 +17,12 @@ use Rattle.type_check.specs.Functions.{InFunctionAnswers}
 use Rattle.type_check.specs.Found.{Found, FoundAtom}
 use Rattle.type_check.specs.FoundParts.{FoundAtoms, FoundCells, FoundArgs}
 use Rattle.type_check.specs.State.{State, context_of, IsSteady}
-use Rattle.type_check.proofs.Entering.{steady_types, steady_sorts, made_types, made_sorts}
-use Rattle.type_check.proofs.ExprParts.{is_array, is_frame, is_no_atoms, is_no_cells, at_expr, at_atom, atom_within, expr_within, is_app, is_type_app, is_index_app, is_unbox, is_type_fn, is_index_fn, is_boxed, is_fn}
-use Rattle.type_check.proofs.NodeLemmas.{noted, type_function_refused, type_function_found, index_function_refused, index_function_found}
-use Rattle.type_check.proofs.BoxRule.{content_refused}
-use Rattle.type_check.proofs.FnRule.{types_refused}
-use Rattle.type_check.proofs.FnSteps.{
+use Rattle.type_check.proofs.contexts.Entering.{steady_types, steady_sorts, made_types, made_sorts}
+use Rattle.type_check.proofs.trees.ExprParts.{is_array, is_frame, is_no_atoms, is_no_cells, at_expr, at_atom, atom_within, expr_within, is_app, is_type_app, is_index_app, is_unbox, is_type_fn, is_index_fn, is_boxed, is_fn}
+use Rattle.type_check.proofs.one_by_one.NodeLemmas.{noted, type_function_refused, type_function_found, index_function_refused, index_function_found}
+use Rattle.type_check.proofs.exits.BoxRule.{content_refused}
+use Rattle.type_check.proofs.exits.FnRule.{types_refused}
+use Rattle.type_check.proofs.one_by_one.FnSteps.{
   steady_inside as fn_steady_inside,
   made_inside as fn_made_inside,
   in_function_refused,
@@ -32,9 +32,9 @@ use Rattle.type_check.proofs.FnSteps.{
   opened_same,
   inner_refused,
 }
-use Rattle.type_check.proofs.MadeWritten.{made_holds, made_arrays}
-use Rattle.type_check.proofs.RuleLemmas.{atom_ruled, room_of, written_of, ruled_two_like}
-use Rattle.type_check.proofs.BoxSteps.{
+use Rattle.type_check.proofs.trees.MadeWritten.{made_holds, made_arrays}
+use Rattle.type_check.proofs.exits.RuleLemmas.{atom_ruled, room_of, written_of, ruled_two_like}
+use Rattle.type_check.proofs.one_by_one.BoxSteps.{
   sorts_few_inside,
   steady_inside,
   made_inside,
@@ -48,9 +48,9 @@ use Rattle.type_check.proofs.BoxSteps.{
   unbox_not_opened,
   body_refused,
 }
-use Rattle.type_check.proofs.PrimSteps.{prim_found}
-use Rattle.type_check.proofs.PartsTested.{atom_refused, cell_refused, arg_refused}
-use Rattle.type_check.proofs.ArgSteps.{
+use Rattle.type_check.proofs.one_by_one.PrimSteps.{prim_found}
+use Rattle.type_check.proofs.one_by_one.PartsTested.{atom_refused, cell_refused, arg_refused}
+use Rattle.type_check.proofs.one_by_one.ArgSteps.{
   args_go_on,
   args_stop,
   args_at_first,
@@ -64,7 +64,7 @@ use Rattle.type_check.proofs.ArgSteps.{
   function_output,
   args_later_refused,
 }
-use Rattle.type_check.proofs.Steps.{
+use Rattle.type_check.proofs.one_by_one.Steps.{
   steady_after,
   made_after,
   sound_after,

@@ -1,7 +1,7 @@
 use Rattle.std.proofs.Common.{◌∙◌, sym, ap}
 use Rattle.core_syntax.specs.Refine.{index_of, ty_of}
 use Rattle.core_syntax.proofs.TyRows.{is_arr}
-use Rattle.type_check.proofs.FramedLemmas.{tree_told}
+use Rattle.type_check.proofs.trees.FramedLemmas.{tree_told}
 use Rattle.type_check.proofs.framed.framed_type.Goals as goal
 
 pub returns-in-Ok : goal.returns-in-Ok

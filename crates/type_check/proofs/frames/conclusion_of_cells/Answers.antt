@@ -1,6 +1,6 @@
 use Rattle.core_syntax.specs.Refine.{ty_of}
 use Rattle.core_syntax.specs.Notes.{note_of, cell_note}
-use Rattle.type_check.proofs.ArrayLemmas.{follows_noted}
+use Rattle.type_check.proofs.trees.ArrayLemmas.{follows_noted}
 use Rattle.type_check.proofs.frames.conclusion_of_cells.Goals as goal
 
 pub returns-in-Ok : goal.returns-in-Ok

@@ -4,7 +4,7 @@ use Rattle.core_syntax.specs.Made.{IsArray}
 use Rattle.core_syntax.specs.Notes.{note_of}
 use Rattle.core_syntax.specs.Typing.{numbers}
 use Rattle.type_check.specs.Forms.{IsFramed}
-use Rattle.type_check.proofs.ArrayLemmas.{no_cells_follows}
+use Rattle.type_check.proofs.trees.ArrayLemmas.{no_cells_follows}
 use Rattle.type_check.proofs.frames.empty_frame.Goals as goal
 
 pub returns-in-Ok : goal.returns-in-Ok

@@ -4,7 +4,7 @@ use Rattle.core_syntax.specs.Made.{IsArray}
 use Rattle.core_syntax.specs.Notes.{cell_note}
 use Rattle.core_syntax.specs.Typing.{numbers}
 use Rattle.type_check.specs.Forms.{IsFramed, Follows}
-use Rattle.type_check.proofs.ArrayLemmas.{frame_follows}
+use Rattle.type_check.proofs.trees.ArrayLemmas.{frame_follows}
 use Rattle.type_check.proofs.frames.frame.Goals as goal
 
 pub returns-in-Ok : goal.returns-in-Ok

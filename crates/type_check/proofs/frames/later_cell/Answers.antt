@@ -1,6 +1,6 @@
 use Rattle.std.proofs.Common.{◌≡◌, ◌∙◌, refl, sym, ap, true≢false}
 use Rattle.core_syntax.specs.Refine.{ty_of}
-use Rattle.type_check.proofs.PartsTested.{one_cell, cell_differs}
+use Rattle.type_check.proofs.one_by_one.PartsTested.{one_cell, cell_differs}
 use Rattle.type_check.proofs.frames.later_cell.Goals as goal
 
 pub returns-then-same_part : goal.returns-then-same_part

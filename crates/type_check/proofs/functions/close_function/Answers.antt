@@ -1,8 +1,8 @@
 use Rattle.std.proofs.Common.{◌≡◌, ◌∙◌, ap, true}
 use Rattle.core_syntax.specs.Refine.{ty_of, tys_of}
 use Rattle.core_syntax.specs.Syntax.{Fun, no_span}
-use Rattle.type_check.proofs.FormLemmas.{normal_read}
-use Rattle.type_check.proofs.FnRule.{closed, misfits}
+use Rattle.type_check.proofs.normal_forms.FormLemmas.{normal_read}
+use Rattle.type_check.proofs.exits.FnRule.{closed, misfits}
 use Rattle.type_check.proofs.functions.close_function.Goals as goal
 
 pub returns-in-Ok-clause-concludes : goal.returns-in-Ok-clause-concludes

@@ -1,7 +1,7 @@
 use Rattle.core_syntax.specs.Blame.{written, all_written}
 use Rattle.core_syntax.specs.Refine.{ty_of, tys_of}
-use Rattle.type_check.proofs.Refusing.{in_first, in_later}
-use Rattle.type_check.proofs.WrittenLemmas.{rescoped}
+use Rattle.type_check.proofs.exits.Refusing.{in_first, in_later}
+use Rattle.type_check.proofs.trees.WrittenLemmas.{rescoped}
 use Rattle.type_check.proofs.functions.function_types.Goals as goal
 
 pub returns-in-Ok-written-clause-written : goal.returns-in-Ok-written-clause-written

@@ -1,7 +1,7 @@
 use Rattle.std.proofs.Common.{rules, ◌≡◌, sym, subst}
 use Rattle.core_syntax.specs.NormTypes.{norm_tys}
 use Rattle.core_syntax.specs.Refine.{tys_of}
-use Rattle.type_check.proofs.FnSteps.{trees_go_on, trees_normal}
+use Rattle.type_check.proofs.one_by_one.FnSteps.{trees_go_on, trees_normal}
 use Rattle.type_check.proofs.functions.trees.Goals as goal
 
 pub loop-ty-preserved : goal.loop-ty-preserved

@@ -2,7 +2,7 @@ use Rattle.std.proofs.Common.{◌∙◌, sym, []}
 use Rattle.core_syntax.specs.Lists.{onto}
 use Rattle.core_syntax.specs.Refine.{index_of}
 use Rattle.core_syntax.proofs.TreeRows.{at_form}
-use Rattle.type_check.proofs.GivenLemmas.{of_another, of_this, sorted_given}
+use Rattle.type_check.proofs.exits.GivenLemmas.{of_another, of_this, sorted_given}
 use Rattle.type_check.proofs.given.given_index.Goals as goal
 
 pub returns-then-are_same : goal.returns-then-are_same

@@ -8,8 +8,8 @@ use Rattle.core_syntax.specs.Made.{IndexMade}
 use Rattle.std.specs.Prelude.{Ok}
 use Rattle.type_check.specs.Found.{Refuses}
 use Rattle.type_check.specs.Written.{Tells}
-use Rattle.type_check.proofs.Loops.{each_item, own_item}
-use Rattle.type_check.proofs.GivenLemmas.{given, index_next, index_refused, indices_end}
+use Rattle.type_check.proofs.one_by_one.Loops.{each_item, own_item}
+use Rattle.type_check.proofs.exits.GivenLemmas.{given, index_next, index_refused, indices_end}
 use Rattle.type_check.proofs.given.given_indices.Goals as goal
 
 pub given_index-requires : goal.given_index-requires

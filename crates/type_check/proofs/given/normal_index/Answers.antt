@@ -1,7 +1,7 @@
 use Rattle.core_syntax.specs.declared.index.Sort.TheVariants as sort
 use Rattle.core_syntax.specs.Refine.{index_of}
 use Rattle.core_syntax.specs.Norm.{measure_at}
-use Rattle.type_check.proofs.GivenLemmas.{dim_measured, word_measured, word_given, same_either}
+use Rattle.type_check.proofs.exits.GivenLemmas.{dim_measured, word_measured, word_given, same_either}
 use Rattle.type_check.proofs.given.normal_index.Goals as goal
 
 pub returns-in-Err : goal.returns-in-Err

@@ -1,5 +1,5 @@
 use Rattle.std.proofs.Common.{◌≡◌, [], ◌∷◌, ◌++◌, rules}
-use Rattle.type_check.proofs.TreesMade.{words_made}
+use Rattle.type_check.proofs.trees.TreesMade.{words_made}
 use Rattle.type_check.proofs.notes.shape_words.Goals as goal
 
 pub loop-ty-preserved : goal.loop-ty-preserved

@@ -2,8 +2,8 @@ use Rattle.std.proofs.Common.{sym, subst}
 use Rattle.core_syntax.specs.Refine.{ty_of, expr_of}
 use Rattle.type_check.specs.Answers.{Finding}
 use Rattle.type_check.specs.Found.{Found}
-use Rattle.type_check.proofs.ExprParts.{at_expr}
-use Rattle.type_check.proofs.ProgramParts.{unprintable_body}
+use Rattle.type_check.proofs.trees.ExprParts.{at_expr}
+use Rattle.type_check.proofs.whole_programs.ProgramParts.{unprintable_body}
 use Rattle.type_check.proofs.program.body_type.Goals as goal
 
 pub returns-in-Err-printable : goal.returns-in-Err-printable

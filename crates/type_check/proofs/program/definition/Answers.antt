@@ -1,5 +1,5 @@
 use Rattle.core_syntax.specs.Programs.{def_of}
-use Rattle.type_check.proofs.ProgramParts.{def_type_refused}
+use Rattle.type_check.proofs.whole_programs.ProgramParts.{def_type_refused}
 use Rattle.type_check.proofs.program.definition.Goals as goal
 
 pub returns-in-Err : goal.returns-in-Err

@@ -2,8 +2,8 @@ use Rattle.std.proofs.Common.{◌≡◌, ◌∙◌, sym, true}
 use Rattle.core_syntax.specs.Programs.{def_of}
 use Rattle.core_syntax.specs.Refine.{ty_of}
 use Rattle.core_syntax.proofs.TyRows.{at_ty_form}
-use Rattle.type_check.proofs.ExprParts.{at_expr}
-use Rattle.type_check.proofs.ProgramParts.{valued, value_refused, no_value}
+use Rattle.type_check.proofs.trees.ExprParts.{at_expr}
+use Rattle.type_check.proofs.whole_programs.ProgramParts.{valued, value_refused, no_value}
 use Rattle.type_check.proofs.program.definition_value.Goals as goal
 
 pub returns-then-not-is_value : goal.returns-then-not-is_value

@@ -1,7 +1,7 @@
 use Rattle.core_syntax.specs.Lists.{each}
 use Rattle.core_syntax.specs.Programs.{def_of}
 use Rattle.type_check.specs.ProgramAnswers.{DefsAnswer}
-use Rattle.type_check.proofs.ProgramParts.{carried, defs_steady, value_made, type_made, defs_stop, defs_go_on}
+use Rattle.type_check.proofs.whole_programs.ProgramParts.{carried, defs_steady, value_made, type_made, defs_stop, defs_go_on}
 use Rattle.type_check.proofs.program.definitions.Goals as goal
 
 pub definition-requires-clause-steady : goal.definition-requires-clause-steady

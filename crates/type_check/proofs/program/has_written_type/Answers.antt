@@ -1,7 +1,7 @@
 use Rattle.std.proofs.Common.{◌≡◌, ◌∙◌, refl, sym, ap, subst, true≢false}
 use Rattle.core_syntax.specs.NormTypes.{norm_ty}
 use Rattle.core_syntax.specs.Refine.{ty_of}
-use Rattle.type_check.proofs.ProgramParts.{has_written, has_another}
+use Rattle.type_check.proofs.whole_programs.ProgramParts.{has_written, has_another}
 use Rattle.type_check.proofs.program.has_written_type.Goals as goal
 
 pub returns-then-same_part : goal.returns-then-same_part

@@ -1,5 +1,5 @@
 use Rattle.core_syntax.specs.Refine.{ty_of}
-use Rattle.type_check.proofs.ProgramParts.{input_entered}
+use Rattle.type_check.proofs.whole_programs.ProgramParts.{input_entered}
 use Rattle.type_check.proofs.program.input.Goals as goal
 
 pub returns-in-Ok : goal.returns-in-Ok

@@ -3,8 +3,8 @@ use Rattle.core_syntax.specs.Lists.{each}
 use Rattle.core_syntax.specs.Refine.{ty_of}
 use Rattle.type_check.specs.ProgramAnswers.{InputsAnswer}
 use Rattle.type_check.specs.Written.{IsWrittenArray}
-use Rattle.type_check.proofs.Loops.{each_item}
-use Rattle.type_check.proofs.ProgramParts.{carried, inputs_stop, inputs_go_on, inputs_met_on}
+use Rattle.type_check.proofs.one_by_one.Loops.{each_item}
+use Rattle.type_check.proofs.whole_programs.ProgramParts.{carried, inputs_stop, inputs_go_on, inputs_met_on}
 use Rattle.type_check.proofs.program.inputs.Goals as goal
 
 pub input-requires-clause-array : goal.input-requires-clause-array

@@ -1,7 +1,7 @@
 use Rattle.std.proofs.Common.{[], sym}
 use Rattle.core_syntax.specs.Refine.{ty_of}
 use Rattle.core_syntax.proofs.TyRows.{at_ty_form}
-use Rattle.type_check.proofs.ProgramParts.{unprintable_input, input_type_refused}
+use Rattle.type_check.proofs.whole_programs.ProgramParts.{unprintable_input, input_type_refused}
 use Rattle.type_check.proofs.program.printable_type.Goals as goal
 
 pub returns-in-Ok-printable : goal.returns-in-Ok-printable

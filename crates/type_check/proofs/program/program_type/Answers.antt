@@ -4,7 +4,7 @@ use Rattle.core_syntax.specs.Made.{behind_defs}
 use Rattle.core_syntax.specs.Refine.{ty_of}
 use Rattle.core_syntax.specs.Wholes.{program_of}
 use Rattle.type_check.specs.Written.{IsWrittenArray}
-use Rattle.type_check.proofs.ProgramParts.{all_arrays, behind_all, body_steady, body_made, program_answered}
+use Rattle.type_check.proofs.whole_programs.ProgramParts.{all_arrays, behind_all, body_steady, body_made, program_answered}
 use Rattle.type_check.proofs.program.program_type.Goals as goal
 
 pub inputs-requires-clause-arrays : goal.inputs-requires-clause-arrays

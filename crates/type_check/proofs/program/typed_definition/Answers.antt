@@ -1,6 +1,6 @@
 use Rattle.std.proofs.Common.{[]}
 use Rattle.core_syntax.specs.Programs.{def_of}
-use Rattle.type_check.proofs.ProgramParts.{def_defined, def_value_refused}
+use Rattle.type_check.proofs.whole_programs.ProgramParts.{def_defined, def_value_refused}
 use Rattle.type_check.proofs.program.typed_definition.Goals as goal
 
 pub definition_value-requires-clause-written : goal.definition_value-requires-clause-written

@@ -3,7 +3,7 @@ use Rattle.core_syntax.specs.Refine.{tys_of}
 use Rattle.core_syntax.specs.Syntax.{App}
 use Rattle.type_check.specs.Found.{Found}
 use Rattle.type_check.specs.FoundParts.{FoundArgs}
-use Rattle.type_check.proofs.RuleLemmas.{ruled_two}
+use Rattle.type_check.proofs.exits.RuleLemmas.{ruled_two}
 use Rattle.type_check.proofs.rules.application_rule.Goals as goal
 
 pub returns-in-Ok-insert : goal.returns-in-Ok-insert

@@ -1,5 +1,5 @@
 use Rattle.core_syntax.specs.Refine.{ty_of}
-use Rattle.type_check.proofs.RuleLemmas.{tested_arg, formed_like}
+use Rattle.type_check.proofs.exits.RuleLemmas.{tested_arg, formed_like}
 use Rattle.type_check.proofs.rules.argument_rule.Goals as goal
 
 pub returns : goal.returns

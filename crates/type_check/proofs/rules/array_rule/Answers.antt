@@ -2,7 +2,7 @@ use Rattle.core_syntax.specs.Refine.{ty_of}
 use Rattle.core_syntax.specs.Syntax.{Array, more_atoms}
 use Rattle.type_check.specs.Found.{FoundAtom}
 use Rattle.type_check.specs.FoundParts.{FoundAtoms}
-use Rattle.type_check.proofs.RuleLemmas.{ruled_two}
+use Rattle.type_check.proofs.exits.RuleLemmas.{ruled_two}
 use Rattle.type_check.proofs.rules.array_rule.Goals as goal
 
 pub returns : goal.returns

@@ -1,5 +1,5 @@
 use Rattle.core_syntax.specs.Refine.{ty_of}
-use Rattle.type_check.proofs.RuleLemmas.{tested_atom}
+use Rattle.type_check.proofs.exits.RuleLemmas.{tested_atom}
 use Rattle.type_check.proofs.rules.atom_rule.Goals as goal
 
 pub returns : goal.returns

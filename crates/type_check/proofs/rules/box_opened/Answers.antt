@@ -1,6 +1,6 @@
 use Rattle.core_syntax.specs.Lists.{each}
 use Rattle.core_syntax.specs.Refine.{index_of, ty_of}
-use Rattle.type_check.proofs.RuleLemmas.{scope_like, room_of, written_of, indices_made}
+use Rattle.type_check.proofs.exits.RuleLemmas.{scope_like, room_of, written_of, indices_made}
 use Rattle.type_check.proofs.rules.box_opened.Goals as goal
 
 pub open_box-requires : goal.open_box-requires

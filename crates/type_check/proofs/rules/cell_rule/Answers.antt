@@ -1,5 +1,5 @@
 use Rattle.core_syntax.specs.Refine.{ty_of}
-use Rattle.type_check.proofs.RuleLemmas.{tested_cell}
+use Rattle.type_check.proofs.exits.RuleLemmas.{tested_cell}
 use Rattle.type_check.proofs.rules.cell_rule.Goals as goal
 
 pub returns : goal.returns

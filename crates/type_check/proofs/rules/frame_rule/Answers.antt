@@ -2,7 +2,7 @@ use Rattle.core_syntax.specs.Refine.{ty_of}
 use Rattle.core_syntax.specs.Syntax.{Frame, more_exprs}
 use Rattle.type_check.specs.Found.{Found}
 use Rattle.type_check.specs.FoundParts.{FoundCells}
-use Rattle.type_check.proofs.RuleLemmas.{ruled_two}
+use Rattle.type_check.proofs.exits.RuleLemmas.{ruled_two}
 use Rattle.type_check.proofs.rules.frame_rule.Goals as goal
 
 pub returns : goal.returns

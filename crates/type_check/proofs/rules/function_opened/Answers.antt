@@ -1,5 +1,5 @@
 use Rattle.core_syntax.specs.Refine.{ty_of}
-use Rattle.type_check.proofs.RuleLemmas.{scope_like, written_of, inputs_written_of}
+use Rattle.type_check.proofs.exits.RuleLemmas.{scope_like, written_of, inputs_written_of}
 use Rattle.type_check.proofs.rules.function_opened.Goals as goal
 
 pub function_types-requires : goal.function_types-requires

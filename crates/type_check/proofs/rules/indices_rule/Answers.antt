@@ -7,7 +7,7 @@ use Rattle.core_syntax.specs.Syntax.{IndexApp}
 use Rattle.type_check.specs.Contexts.{IsSound}
 use Rattle.type_check.specs.Found.{Found}
 use Rattle.type_check.specs.Written.{HasRoom, HasScope}
-use Rattle.type_check.proofs.RuleLemmas.{room_of, indices_made, ruled_scoped}
+use Rattle.type_check.proofs.exits.RuleLemmas.{room_of, indices_made, ruled_scoped}
 use Rattle.type_check.proofs.rules.indices_rule.Goals as goal
 
 pub apply_indices-requires : goal.apply_indices-requires

@@ -1,7 +1,7 @@
 use Rattle.core_syntax.specs.Refine.{ty_of}
 use Rattle.core_syntax.specs.Syntax.{NoAtoms}
-use Rattle.type_check.proofs.MadeWritten.{made_holds}
-use Rattle.type_check.proofs.RuleLemmas.{scope_like, written_of, ruled_alone, no_atoms_refused}
+use Rattle.type_check.proofs.trees.MadeWritten.{made_holds}
+use Rattle.type_check.proofs.exits.RuleLemmas.{scope_like, written_of, ruled_alone, no_atoms_refused}
 use Rattle.type_check.specs.Contexts.{scope_of}
 use Rattle.type_check.specs.State.{context_of}
 use Rattle.type_check.proofs.rules.no_atoms_rule.Goals as goal

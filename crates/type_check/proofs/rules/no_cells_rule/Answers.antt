@@ -2,9 +2,9 @@ use Rattle.std.proofs.Common.{sym, subst}
 use Rattle.core_syntax.specs.Made.{IsArray}
 use Rattle.core_syntax.specs.Refine.{ty_of}
 use Rattle.core_syntax.specs.Syntax.{NoCells}
-use Rattle.type_check.proofs.MadeWritten.{made_holds}
-use Rattle.type_check.proofs.RuleLemmas.{scope_like, written_of, ruled_alone, no_cells_refused, array_normal}
-use Rattle.type_check.proofs.Steps.{like_itself}
+use Rattle.type_check.proofs.trees.MadeWritten.{made_holds}
+use Rattle.type_check.proofs.exits.RuleLemmas.{scope_like, written_of, ruled_alone, no_cells_refused, array_normal}
+use Rattle.type_check.proofs.one_by_one.Steps.{like_itself}
 use Rattle.type_check.specs.Contexts.{scope_of}
 use Rattle.type_check.specs.State.{context_of}
 use Rattle.type_check.proofs.rules.no_cells_rule.Goals as goal

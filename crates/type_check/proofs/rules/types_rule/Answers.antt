@@ -2,7 +2,7 @@ use Rattle.core_syntax.specs.Lists.{each}
 use Rattle.core_syntax.specs.Refine.{ty_of}
 use Rattle.core_syntax.specs.Syntax.{TypeApp}
 use Rattle.type_check.specs.Found.{Found}
-use Rattle.type_check.proofs.RuleLemmas.{room_of, types_written, ruled_scoped}
+use Rattle.type_check.proofs.exits.RuleLemmas.{room_of, types_written, ruled_scoped}
 use Rattle.type_check.proofs.rules.types_rule.Goals as goal
 
 pub apply_types-requires : goal.apply_types-requires

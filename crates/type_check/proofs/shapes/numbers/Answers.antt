@@ -6,7 +6,7 @@ use Rattle.core_syntax.specs.Nodes.{number}
 use Rattle.core_syntax.specs.Syntax as syntax
 use Rattle.core_syntax.specs.declared.index.IndexForm.{Dims}
 use Rattle.core_syntax.proofs.TreeRows.{form_of_dims}
-use Rattle.type_check.proofs.TreesMade.{numbers_done}
+use Rattle.type_check.proofs.trees.TreesMade.{numbers_done}
 use Rattle.type_check.proofs.shapes.numbers.Goals as goal
 
 pub returns : goal.returns

@@ -1,4 +1,4 @@
-use Rattle.type_check.proofs.SynthSteps.{added_more}
+use Rattle.type_check.proofs.contexts.SynthSteps.{added_more}
 use Rattle.type_check.proofs.synthesis.define_all.Goals as goal
 
 pub loop-ty-preserved : goal.loop-ty-preserved

@@ -1,4 +1,4 @@
-use Rattle.type_check.proofs.SynthSteps.{on_ok}
+use Rattle.type_check.proofs.contexts.SynthSteps.{on_ok}
 use Rattle.type_check.proofs.synthesis.define_known.Goals as goal
 
 pub returns-in-Ok-clause-defined : goal.returns-in-Ok-clause-defined

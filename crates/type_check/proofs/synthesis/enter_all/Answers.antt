@@ -1,5 +1,5 @@
 use Rattle.std.proofs.Common.{◌-◌, ◌<◌, length, arith}
-use Rattle.type_check.proofs.SynthSteps.{terms_back}
+use Rattle.type_check.proofs.contexts.SynthSteps.{terms_back}
 use Rattle.type_check.proofs.synthesis.enter_all.Goals as goal
 
 pub loop-k-preserved : goal.loop-k-preserved

@@ -1,7 +1,7 @@
 use Rattle.std.proofs.Common.{drop}
 use Rattle.core_syntax.specs.Lists.{each}
 use Rattle.core_syntax.specs.Refine.{ty_of}
-use Rattle.type_check.proofs.SynthSteps.{TermsEntered}
+use Rattle.type_check.proofs.contexts.SynthSteps.{TermsEntered}
 use Rattle.type_check.proofs.synthesis.enter_all.Given as goal
 
 abbrev pub invariant-loop-k : goal.invariant-loop-k

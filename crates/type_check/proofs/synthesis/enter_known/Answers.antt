@@ -1,6 +1,6 @@
 use Rattle.std.proofs.Common.{refl}
 use Rattle.type_check.specs.State.{bound_at}
-use Rattle.type_check.proofs.SynthSteps.{on_ok}
+use Rattle.type_check.proofs.contexts.SynthSteps.{on_ok}
 use Rattle.type_check.proofs.synthesis.enter_known.Goals as goal
 
 pub returns-in-Ok-clause-entered : goal.returns-in-Ok-clause-entered

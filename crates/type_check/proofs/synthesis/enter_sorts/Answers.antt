@@ -1,6 +1,6 @@
 use Rattle.std.proofs.Common.{◌-◌, ◌<◌, length, arith}
-use Rattle.type_check.proofs.Loops.{own_item}
-use Rattle.type_check.proofs.SynthSteps.{sorts_back}
+use Rattle.type_check.proofs.one_by_one.Loops.{own_item}
+use Rattle.type_check.proofs.contexts.SynthSteps.{sorts_back}
 use Rattle.type_check.proofs.synthesis.enter_sorts.Goals as goal
 
 pub loop-k-preserved : goal.loop-k-preserved

@@ -1,5 +1,5 @@
 use Rattle.std.proofs.Common.{drop}
-use Rattle.type_check.proofs.SynthSteps.{SortsEntered}
+use Rattle.type_check.proofs.contexts.SynthSteps.{SortsEntered}
 use Rattle.type_check.proofs.synthesis.enter_sorts.Given as goal
 
 abbrev pub invariant-loop-k : goal.invariant-loop-k

@@ -1,6 +1,6 @@
 use Rattle.core_syntax.specs.Refine.{expr_of}
 use Rattle.type_check.specs.Synth.{context_with}
-use Rattle.type_check.proofs.SynthLemmas.{steady_within, made_within, synth_met, synth_has, synth_refused}
+use Rattle.type_check.proofs.contexts.SynthLemmas.{steady_within, made_within, synth_met, synth_has, synth_refused}
 use Rattle.type_check.proofs.synthesis.synth.Goals as goal
 
 pub expression-requires-clause-steady : goal.expression-requires-clause-steady

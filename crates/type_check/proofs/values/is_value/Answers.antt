@@ -1,6 +1,6 @@
 use Rattle.std.proofs.Common.{◌∙◌, refl, sym, ap}
 use Rattle.core_syntax.specs.Typing.{is_syntactic_value}
-use Rattle.type_check.proofs.ExprParts.{is_array}
+use Rattle.type_check.proofs.trees.ExprParts.{is_array}
 use Rattle.type_check.proofs.values.is_value.Goals as goal
 
 pub returns-in-Array : goal.returns-in-Array

@@ -1,7 +1,7 @@
 use Rattle.std.proofs.Common.{[]}
 use Rattle.core_syntax.specs.Refine.{ty_of}
-use Rattle.type_check.proofs.VariableLemmas.{definition_is, definition_moves, def_few}
-use Rattle.type_check.proofs.NodeLemmas.{unchanged}
+use Rattle.type_check.proofs.contexts.VariableLemmas.{definition_is, definition_moves, def_few}
+use Rattle.type_check.proofs.one_by_one.NodeLemmas.{unchanged}
 use Rattle.type_check.proofs.variables.definition.Goals as goal
 
 pub definition_type-requires : goal.definition_type-requires

@@ -1,8 +1,8 @@
 use Rattle.std.proofs.Common.{◌≡◌, ◌∙◌, ◌-◌, ap, []}
 use Rattle.core_syntax.specs.Refine.{ty_of}
 use Rattle.type_check.specs.State.{further}
-use Rattle.type_check.proofs.VariableLemmas.{variable_is, variable_moves, term_few}
-use Rattle.type_check.proofs.NodeLemmas.{unchanged}
+use Rattle.type_check.proofs.contexts.VariableLemmas.{variable_is, variable_moves, term_few}
+use Rattle.type_check.proofs.one_by_one.NodeLemmas.{unchanged}
 use Rattle.type_check.proofs.variables.variable.Goals as goal
 
 pub bound-bound-requires : goal.bound-bound-requires

@@ -1,4 +1,4 @@
-use Rattle.type_check.proofs.WrittenLemmas.{formed}
+use Rattle.type_check.proofs.trees.WrittenLemmas.{formed}
 use Rattle.type_check.proofs.written.written.Goals as goal
 
 pub returns-in-Ok-clause-written : goal.returns-in-Ok-clause-written

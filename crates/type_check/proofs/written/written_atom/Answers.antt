@@ -2,7 +2,7 @@ use Rattle.std.proofs.Common.{◌∙◌, ap, sym}
 use Rattle.std.specs.Prelude.{not}
 use Rattle.core_syntax.specs.Refine.{ty_of}
 use Rattle.core_syntax.proofs.TyRows.{at_ty_form}
-use Rattle.type_check.proofs.WrittenLemmas.{no_atom, an_atom}
+use Rattle.type_check.proofs.trees.WrittenLemmas.{no_atom, an_atom}
 use Rattle.type_check.proofs.written.written_atom.Goals as goal
 
 pub returns-then-is_array-clause-written : goal.returns-then-is_array-clause-written

@@ -2,9 +2,9 @@ use Rattle.std.proofs.Common.{◌≡◌, ◌∙◌, sym, subst, ◌++◌, ◌∷
 use Rattle.std.proofs.lemmas.List.{drop_all}
 use Rattle.core_syntax.specs.Refine.{ty_of}
 use Rattle.type_check.specs.Written.{IsWritten}
-use Rattle.type_check.proofs.Loops.{each_item}
-use Rattle.type_check.proofs.WrittenLemmas.{rescoped}
-use Rattle.type_check.proofs.ListsWritten.{atom_next, atom_refused, atoms_end}
+use Rattle.type_check.proofs.one_by_one.Loops.{each_item}
+use Rattle.type_check.proofs.trees.WrittenLemmas.{rescoped}
+use Rattle.type_check.proofs.trees.ListsWritten.{atom_next, atom_refused, atoms_end}
 use Rattle.type_check.proofs.written.written_atoms.Goals as goal
 
 pub written_atom-requires : goal.written_atom-requires

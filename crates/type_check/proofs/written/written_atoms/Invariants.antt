@@ -1,7 +1,7 @@
 use Rattle.std.proofs.Common.{◌≡◌, drop}
 use Rattle.core_syntax.specs.Typing.{Context}
 use Rattle.type_check.specs.Written.{HasScope}
-use Rattle.type_check.proofs.ListsWritten.{AtomsLeave}
+use Rattle.type_check.proofs.trees.ListsWritten.{AtomsLeave}
 use Rattle.type_check.proofs.written.written_atoms.Given as goal
 
 abbrev pub invariant-loop-t : goal.invariant-loop-t

@@ -1,0 +1,11 @@
+pub mod ApplyLemmas
+pub mod BoxRule
+pub mod Conclude
+pub mod Concluding
+pub mod FnRule
+pub mod GivenLemmas
+pub mod IndexAppRule
+pub mod Refusing
+pub mod RuleLemmas
+pub mod TypeAppRule
+pub mod UnboxRule

@@ -1,0 +1,11 @@
+pub mod ArgLemmas
+pub mod ArgSteps
+pub mod BoxSteps
+pub mod FnSteps
+pub mod Loops
+pub mod NodeLemmas
+pub mod PartsLemmas
+pub mod PartsTested
+pub mod PrimSteps
+pub mod Steps
+pub mod ValueLemmas

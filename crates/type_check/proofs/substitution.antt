@@ -1,0 +1,6 @@
+pub mod GivenSame
+pub mod Instances
+pub mod PutArrays
+pub mod PutSorted
+pub mod Renamed
+pub mod Shifted

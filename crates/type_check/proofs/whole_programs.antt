@@ -1,0 +1,5 @@
+pub mod Accepted
+pub mod Complete
+pub mod ProgramParts
+pub mod ProgramStates
+pub mod ProgramSteps
