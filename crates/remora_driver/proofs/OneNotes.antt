@@ -12,7 +12,7 @@ use Rattle.core_syntax.proofs.Alike.{Alike, are_same_refl, has_alike}
 use Rattle.core_syntax.proofs.Equality.{same-put}
 use Rattle.core_syntax.proofs.NormTyLemmas.{same_normal}
 use Rattle.core_syntax.proofs.Unique.{unique}
-use Rattle.type_check.proofs.FramedLemmas.{note_again}
+use Rattle.type_check.proofs.trees.FramedLemmas.{note_again}
 use Rattle.reduction_laws.proofs.programs.Alikes.{alike_types, alike_sorts, alike_terms}
 
 -- ---- notes of equal types

@@ -8,7 +8,7 @@ use Rattle.core_syntax.specs.Wholes.{program_of}
 use Rattle.sexp_reader.specs.Forms.{Forms}
 use Rattle.sexp_reader.specs.Reads.{Reads}
 use Rattle.machine_table.specs.Codes.{Code}
-use Rattle.type_check.proofs.Accepted.{accepted_typed}
+use Rattle.type_check.proofs.whole_programs.Accepted.{accepted_typed}
 use Rattle.remora_driver.specs.declared.errors.SourceRefusal.{SourceRefusal}
 use Rattle.remora_driver.specs.declared.errors.SourceRefusal.TheVariants.{Refused, Memory}
 use Rattle.remora_driver.specs.Due.{unresolved, ill_typed}

@@ -1,7 +1,7 @@
 use Rattle.std.proofs.Common.{rules, refl, sym, ap, ◌∙◌}
 use Rattle.core_syntax.specs.Refine.{expr_of, exprs_of}
 use Rattle.remora_driver.specs.Reducible.{is_plain_expr, are_plain_exprs, is_plain_atom}
-use Rattle.type_check.proofs.ExprParts.{is_array, is_frame, is_app, is_type_app, is_index_app, is_unbox, is_fn, is_type_fn, is_index_fn, is_boxed}
+use Rattle.type_check.proofs.trees.ExprParts.{is_array, is_frame, is_app, is_type_app, is_index_app, is_unbox, is_fn, is_type_fn, is_index_fn, is_boxed}
 use Rattle.remora_driver.proofs.Plain.{and_then, and_else}
 use Rattle.remora_driver.proofs.reducible.+plain.Goals as goal
 
