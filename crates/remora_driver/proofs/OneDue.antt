@@ -28,7 +28,7 @@ use Rattle.code_text.specs.Text.{code_text}
 use Rattle.code_text.proofs.Verdicts.{one_code_read}
 use Rattle.remora_driver.specs.declared.job.Job.{Job}
 use Rattle.remora_driver.specs.declared.job.Job.TheVariants.{Check, Build, Run, Exec, Reduce}
-use Rattle.remora_driver.specs.Due.{Answer, written, refused, IsRefused, too_long, unread, unresolved, ill_typed, IsCheckDue, check_refused, checks, types_of_inputs, HasCodeEnd, IsDueOn, IsDueBy, IsCodeDue, IsRunDue, run_refused, runs, IsBuildDue, build_refused, builds, IsExecDue, text_too_long, no_code, executes, HasEnd, IsReductionDue, not_reduced, is_reduced, IsReduceDue, reduce_refused, reduces, IsJobDue, TakesData, IsDue, no_job, does}
+use Rattle.remora_driver.specs.Due.{Answer, written, refused, IsRefused, too_long, unread, unresolved, ill_typed, IsCheckDue, check_refused, checks, types_of_inputs, HasCodeEnd, IsDueOn, IsDueBy, IsCodeDue, IsRunDue, run_refused, runs, IsBuildDue, build_refused, builds, IsExecDue, text_too_long, no_code, executes, HasEnd, IsReductionDue, IsReduceDue, reduce_refused, reduces, IsJobDue, TakesData, IsDue, no_job, does}
 use Rattle.remora_driver.specs.Jobs.{IsJob, plain, limited, plain_job, limited_job}
 use Rattle.remora_driver.specs.Programs.{IsSource, IsAcceptedSource, IsProgram, input_types}
 use Rattle.remora_driver.specs.Texts.{line, accepted_text}
@@ -160,10 +160,7 @@ one_build bytes a b (builds P ns is ok text) (builds Q ms is' ok' text') =
 
 -- what is due for one program with equal notes
 one_reduction : (P : Program) (ns ms : List NodeNote) (given : List ℕ) (budget : ℕ) (a b : Answer) → ∥ ns ≡ ms ∥₁ → IsReductionDue P ns given budget a → IsReductionDue P ms given budget b → a ≡ b
-one_reduction P ns ms given budget a b same (not_reduced none p) (not_reduced none' q) = p ∙ sym q
-one_reduction P ns ms given budget a b same (not_reduced none p) (is_reduced is end) = absurd (none is)
-one_reduction P ns ms given budget a b same (is_reduced is end) (not_reduced none q) = absurd (none is)
-one_reduction P ns ms given budget a b same (is_reduced is end) (is_reduced is' end') =
+one_reduction P ns ms given budget a b same end end' =
     one_due_on (input_types P) given (HasEnd P ns budget) (HasEnd P ms budget) a b (λ xs fits p q. one_end P ns ms same xs budget a b p q) end end'
 
 one_reduce : (bytes given : List ℕ) (budget : ℕ) (a b : Answer) → IsReduceDue bytes given budget a → IsReduceDue bytes given budget b → a ≡ b

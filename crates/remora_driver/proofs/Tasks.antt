@@ -27,12 +27,11 @@ use Rattle.remora_driver.specs.declared.reply.Reply.{Reply}
 use Rattle.remora_driver.specs.declared.task.Task.{Task}
 use Rattle.remora_driver.specs.declared.task.Task.TheVariants as task
 use Rattle.remora_driver.specs.Calls.{TellsDue}
-use Rattle.remora_driver.specs.Due.{Answer, refused, front, IsCodeDue, IsRefused, run_refused, runs, not_reduced, is_reduced, reduce_refused, reduces, text_too_long, no_code, executes, IsCheckDue, IsBuildDue, IsJobDue, TakesData}
+use Rattle.remora_driver.specs.Due.{Answer, refused, front, IsCodeDue, IsRefused, run_refused, runs, reduce_refused, reduces, text_too_long, no_code, executes, IsCheckDue, IsBuildDue, IsJobDue, TakesData}
 use Rattle.remora_driver.specs.Jobs.{longest_code}
 use Rattle.remora_driver.specs.Programs.{IsAcceptedSource}
-use Rattle.remora_driver.specs.Reducible.{IsReducible}
 use Rattle.remora_driver.specs.Reductions.{notes_of}
-use Rattle.remora_driver.specs.Sources.{seen, IsCompiled, Compiles, IsNoCode, too_long, blamed, NotReduced, not_accepted, not_yet, ReadsCode, ChecksReducible}
+use Rattle.remora_driver.specs.Sources.{seen, IsCompiled, Compiles, IsNoCode, too_long, blamed, ReadsCode, ChecksSource}
 use Rattle.remora_driver.specs.Tasks.{IsTaskOf, IsAnswered, TaskFor, Answers, IsBegun, AnsweredBy, Opens}
 use Rattle.remora_driver.proofs.Called.{told_further}
 use Rattle.remora_driver.proofs.OneBlame.{unblamed}
@@ -66,10 +65,10 @@ exec_takes bytes budget code short text = (
   λ takes none. takes.3 (ap (λ (c : Code). c.params) (one_code_read takes.0 code bytes takes.2 text) ∙ none),
 )
 
-reduce_takes : (bytes : List ℕ) (budget : ℕ) (P : Program) → IsAcceptedSource bytes P → IsReducible P → (P.inputs ≢ []) ↔ TakesData (job.Reduce budget) bytes
-reduce_takes bytes budget P is reducible = (
-  λ some. (P, is, reducible, some),
-  λ takes none. takes.3 (ap (λ (Q : Program). Q.inputs) (one_source bytes takes.0 P takes.1.means is.means) ∙ none),
+reduce_takes : (bytes : List ℕ) (budget : ℕ) (P : Program) → IsAcceptedSource bytes P → (P.inputs ≢ []) ↔ TakesData (job.Reduce budget) bytes
+reduce_takes bytes budget P is = (
+  λ some. (P, is, some),
+  λ takes none. takes.2 (ap (λ (Q : Program). Q.inputs) (one_source bytes takes.0 P takes.1.means is.means) ∙ none),
 )
 
 -- ---- the tests of a task
@@ -102,11 +101,11 @@ run_task_of bytes budget code is =
 pub exec_task_of : (bytes : List ℕ) (budget : ℕ) (code : Code) → length bytes ≤ longest_code → CodeText code bytes → IsTaskOf (job.Exec budget) bytes (task.Run code budget)
 exec_task_of bytes budget code short text = record { due = λ given a due. executes code short text due; takes = exec_takes bytes budget code short text }
 
-pub reduce_task_of : (bytes : List ℕ) (budget : ℕ) (c : Checked) → IsAcceptedSource bytes (program_of c.program) → IsReducible (program_of c.program) → IsTaskOf (job.Reduce budget) bytes (task.Reduce c budget)
-reduce_task_of bytes budget c is reducible =
+pub reduce_task_of : (bytes : List ℕ) (budget : ℕ) (c : Checked) → IsAcceptedSource bytes (program_of c.program) → IsTaskOf (job.Reduce budget) bytes (task.Reduce c budget)
+reduce_task_of bytes budget c is =
     record {
-      due = λ given a due. reduces (program_of c.program) (notes_of c) is (notes_are c) (is_reduced reducible due);
-      takes = reduce_takes bytes budget (program_of c.program) is reducible;
+      due = λ given a due. reduces (program_of c.program) (notes_of c) is (notes_are c) due;
+      takes = reduce_takes bytes budget (program_of c.program) is;
     }
 
 -- ---- why there is none
@@ -120,13 +119,8 @@ exec_answered bytes budget number at (too_long long e h) =
 exec_answered bytes budget number at (blamed kind place short why e h) =
     record { due = λ given. no_code kind place short why (refused_same number _ at _ e h); takes_none = λ takes. unblamed bytes kind place takes.0 why takes.2 }
 
-reduce_answered : (bytes : List ℕ) (budget number : ℕ) (at : Span) → NotReduced bytes number at → IsAnswered (job.Reduce budget) bytes (refused number at)
-reduce_answered bytes budget number at (not_accepted why) = record { due = λ given. reduce_refused number at why refl; takes_none = λ takes. refused_or_not bytes number at takes.0 why takes.1 }
-reduce_answered bytes budget number at (not_yet c is none e h) =
-    record {
-      due = λ given. reduces (program_of c.program) (notes_of c) is (notes_are c) (not_reduced none (refused_same number 90 at front e h));
-      takes_none = λ takes. none (subst IsReducible (one_source bytes takes.0 (program_of c.program) takes.1.means is.means) takes.2);
-    }
+reduce_answered : (bytes : List ℕ) (budget number : ℕ) (at : Span) → IsRefused bytes number at → IsAnswered (job.Reduce budget) bytes (refused number at)
+reduce_answered bytes budget number at why = record { due = λ given. reduce_refused number at why refl; takes_none = λ takes. refused_or_not bytes number at takes.0 why takes.1 }
 
 pub run_untasked : (bytes : List ℕ) (budget : ℕ) (e : SourceRefusal) → Compiles bytes (Err e) → TaskFor (job.Run budget) bytes (Err e)
 run_untasked bytes budget (Refused number at) why = run_answered bytes budget number at why
@@ -136,7 +130,7 @@ pub exec_untasked : (bytes : List ℕ) (budget : ℕ) (e : SourceRefusal) → Re
 exec_untasked bytes budget (Refused number at) why = exec_answered bytes budget number at why
 exec_untasked bytes budget Memory why = tt
 
-pub reduce_untasked : (bytes : List ℕ) (budget : ℕ) (e : SourceRefusal) → ChecksReducible bytes (Err e) → TaskFor (job.Reduce budget) bytes (Err e)
+pub reduce_untasked : (bytes : List ℕ) (budget : ℕ) (e : SourceRefusal) → ChecksSource bytes (Err e) → TaskFor (job.Reduce budget) bytes (Err e)
 reduce_untasked bytes budget (Refused number at) why = reduce_answered bytes budget number at why
 reduce_untasked bytes budget Memory why = tt
 

@@ -33,7 +33,6 @@ use Rattle.remora_driver.specs.declared.status.Status.TheVariants as status
 use Rattle.remora_driver.specs.Jobs.{longest_source, longest_code, IsJob, IsCall}
 use Rattle.remora_driver.specs.Places.{bytes_behind}
 use Rattle.remora_driver.specs.Programs.{IsSource, IsAcceptedSource, IsProgram, input_types}
-use Rattle.remora_driver.specs.Reducible.{IsReducible}
 use Rattle.value_text.specs.DataFits.{Fits}
 use Rattle.value_text.specs.DataTexts.{DataBlame}
 use Rattle.value_text.specs.ValueText.{array_text}
@@ -156,10 +155,9 @@ pub data HasEnd (P : Program) (notes : List NodeNote) (budget : ℕ) (xs : List 
   traps : (k : ℕ) (kind : TrapKind) → k ≤ budget → SourceTraps P notes xs k kind → a ≡ trapped kind → HasEnd P notes budget xs a
   keeps_going : SourceGoes P notes xs budget → a ≡ still_running → HasEnd P notes budget xs a
 
--- what is due for an accepted program that is to be reduced on these data: it isn't reduced today, or its steps end so
-pub data IsReductionDue (P : Program) (notes : List NodeNote) (given : List ℕ) (budget : ℕ) (a : Answer) : Type 0 where
-  not_reduced : ¬ (IsReducible P) → a ≡ refused 90 front → IsReductionDue P notes given budget a
-  is_reduced : IsReducible P → IsDueOn (input_types P) given (HasEnd P notes budget) a → IsReductionDue P notes given budget a
+-- what is due for an accepted program that is reduced on these data
+abbrev pub IsReductionDue : Program → List NodeNote → List ℕ → ℕ → Answer → Type 0
+IsReductionDue P notes given budget a = IsDueOn (input_types P) given (HasEnd P notes budget) a
 
 -- what is due for a program source that is reduced on data (its program has one list of notes at most, so they are those of `IsProgram`)
 pub data IsReduceDue (bytes given : List ℕ) (budget : ℕ) (a : Answer) : Type 0 where
@@ -194,13 +192,13 @@ IsJobDue (Run budget) bytes given a = IsRunDue bytes given budget a
 IsJobDue (Exec budget) bytes given a = IsExecDue bytes given budget a
 IsJobDue (Reduce budget) bytes given a = IsReduceDue bytes given budget a
 
--- the job takes data: it runs, executes or reduces, and these bytes are those of a program or a code that has inputs, and is run, executed or reduced today
+-- the job takes data: it runs, executes or reduces, and these bytes are those of an accepted program or of a code that has inputs
 abbrev pub TakesData : Job → List ℕ → Type 0
 TakesData Check bytes = ⊥
 TakesData Build bytes = ⊥
 TakesData (Run budget) bytes = (P : Program) × IsAcceptedSource bytes P × (P.inputs ≢ [])
 TakesData (Exec budget) bytes = (c : Code) × (length bytes ≤ longest_code) × CodeText c bytes × (c.params ≢ [])
-TakesData (Reduce budget) bytes = (P : Program) × IsAcceptedSource bytes P × IsReducible P × (P.inputs ≢ [])
+TakesData (Reduce budget) bytes = (P : Program) × IsAcceptedSource bytes P × (P.inputs ≢ [])
 
 -- what is due for these words, the bytes of the program source and those of the input, which are data where the job takes some
 pub data IsDue (words : List (List ℕ)) (bytes input : List ℕ) (a : Answer) : Type 0 where

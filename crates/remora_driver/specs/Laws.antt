@@ -1,7 +1,7 @@
 -- What the definition of the due answers comes to.
 use Rattle.std.specs.Prelude.{◌≡◌, ◌≢◌, ℕ, List}
 use Rattle.remora_driver.specs.declared.job.Job.{Job}
-use Rattle.remora_driver.specs.Due.{Answer, refused, still_running, front, IsJobDue, IsDue, IsRunDue, IsReduceDue}
+use Rattle.remora_driver.specs.Due.{Answer, still_running, IsJobDue, IsDue, IsRunDue, IsReduceDue}
 use Rattle.remora_driver.specs.Meant.{IsJobMeant}
 
 -- for the same words, program source and input one answer is due at most
@@ -12,8 +12,7 @@ OneAnswer = (words : List (List ℕ)) (bytes input : List ℕ) (a b : Answer) �
 abbrev pub DueMeans : Type 0
 DueMeans = (job : Job) (bytes given : List ℕ) (a : Answer) → IsJobDue job bytes given a → IsJobMeant job bytes given a
 
--- where neither is still running, and the program is reduced today, `run` and `reduce` answer the same on the same data
+-- where neither is still running, `run` and `reduce` answer the same on the same data
 abbrev pub RunIsReduce : Type 0
 RunIsReduce =
-    (bytes given : List ℕ) (steps reductions : ℕ) (a b : Answer) → IsRunDue bytes given steps a → IsReduceDue bytes given reductions b → a ≢ still_running → b ≢ still_running → b ≢ refused 90 front
-    → a ≡ b
+    (bytes given : List ℕ) (steps reductions : ℕ) (a b : Answer) → IsRunDue bytes given steps a → IsReduceDue bytes given reductions b → a ≢ still_running → b ≢ still_running → a ≡ b

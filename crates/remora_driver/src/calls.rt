@@ -49,8 +49,8 @@ pub fn run_source(alloc: Global, source: &[u8], given: &[u8], budget: u64) -> An
 
 /// What the program that a source means comes to by at most `budget` steps of reduction, on the values that the data `given` is the
 /// text of (docs/LANGUAGE.md, "Reduction"): the line of its value, a trap, or that it is still running. It refuses what
-/// `check_source` refuses, then with 90 a program that isn't reduced today, and then data that doesn't fit the program's inputs,
-/// with 40 to 44. It is never `Stuck`. It answers `Memory` where there is none.
+/// `check_source` refuses, and then data that doesn't fit the program's inputs, with 40 to 44. It is never `Stuck`. It answers
+/// `Memory` where there is none.
 pub fn reduce_source(alloc: Global, source: &[u8], given: &[u8], budget: u64) -> Answer
     ensures due { TellsDue (IsReduceDue source.now given.now budget) result }
     ensures unstuck { IsUnstuck result }

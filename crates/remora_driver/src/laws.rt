@@ -15,7 +15,7 @@ pub fn due_means()
     ensures { DueMeans }
 {}
 
-/// Where neither is still running, and the program is reduced today, `run` and `reduce` answer the same status and text.
+/// Where neither is still running, `run` and `reduce` answer the same status and text on the same data.
 pub fn run_is_reduce()
     ensures { RunIsReduce }
 {}

@@ -10,7 +10,6 @@ mod errors;
 mod executing;
 mod job;
 mod laws;
-mod reducible;
 mod reducing;
 mod reply;
 mod running;
