@@ -24,10 +24,11 @@ use Rattle.remora_driver.specs.declared.errors.SourceRefusal.TheVariants.{Refuse
 use Rattle.remora_driver.specs.declared.job.Job.{Job}
 use Rattle.remora_driver.specs.declared.job.Job.TheVariants as job
 use Rattle.remora_driver.specs.declared.reply.Reply.{Reply}
+use Rattle.remora_driver.specs.declared.telling.Telling.TheVariants as telling
 use Rattle.remora_driver.specs.declared.task.Task.{Task}
 use Rattle.remora_driver.specs.declared.task.Task.TheVariants as task
 use Rattle.remora_driver.specs.Calls.{TellsDue}
-use Rattle.remora_driver.specs.Due.{Answer, refused, front, IsCodeDue, IsRefused, run_refused, runs, reduce_refused, reduces, text_too_long, no_code, executes, IsCheckDue, IsBuildDue, IsJobDue, TakesData}
+use Rattle.remora_driver.specs.Due.{Answer, refused, front, IsCodeDue, IsRefused, run_refused, runs, reduce_refused, reduces, text_too_long, no_code, executes, IsCheckDue, IsBuildDue, IsSoakDue, IsJobDue, TakesData}
 use Rattle.remora_driver.specs.Jobs.{longest_code}
 use Rattle.remora_driver.specs.Programs.{IsAcceptedSource}
 use Rattle.remora_driver.specs.Reductions.{notes_of}
@@ -94,7 +95,7 @@ has_inputs c P b same tells = true_or_not b ((program_of c.program).inputs ≡ [
 pub run_task_of : (bytes : List ℕ) (budget : ℕ) (code : Code) → IsCompiled bytes code → IsTaskOf (job.Run budget) bytes (task.Run code budget)
 run_task_of bytes budget code is =
     record {
-      due = λ given a due. runs is.program is.notes is.runs (subst (λ (c : Code). IsCodeDue c given budget a) is.compiled due);
+      due = λ given a due. runs is.program is.notes is.runs (subst (λ (c : Code). IsCodeDue telling.Value c given budget a) is.compiled due);
       takes = run_takes bytes budget code is;
     }
 
@@ -144,7 +145,7 @@ answers_due j bytes given (Err Memory) g is h = subst (TellsDue (IsJobDue j byte
 
 -- ---- what a job comes to before its data
 
--- a check and a build are answered
+-- a check, a build and the soak program are answered
 pub check_answered : {E : Type 0} (bytes : List ℕ) (r : Result Reply E) → IfOk r (λ a. IsCheckDue bytes (seen a)) → IfOk r (λ a. IsAnswered job.Check bytes (seen a))
 check_answered bytes (Ok a) due = record { due = λ given. due; takes_none = λ takes. takes }
 check_answered bytes (Err e) due = tt
@@ -152,6 +153,10 @@ check_answered bytes (Err e) due = tt
 pub build_answered : {E : Type 0} (bytes : List ℕ) (r : Result Reply E) → IfOk r (λ a. IsBuildDue bytes (seen a)) → IfOk r (λ a. IsAnswered job.Build bytes (seen a))
 build_answered bytes (Ok a) due = record { due = λ given. due; takes_none = λ takes. takes }
 build_answered bytes (Err e) due = tt
+
+pub soak_answered : {E : Type 0} (count : ℕ) (bytes : List ℕ) (r : Result Reply E) → IfOk r (λ a. IsSoakDue count (seen a)) → IfOk r (λ a. IsAnswered (job.Soak count) bytes (seen a))
+soak_answered count bytes (Ok a) due = record { due = λ given. due; takes_none = λ takes. takes }
+soak_answered count bytes (Err e) due = tt
 
 -- a refusal in the place of a task is the answer
 pub refused_opens : {E F : Type 0} (number : ℕ) (at : Span) (r : Result Reply E) (s : Result Begun F) → IfOk r (λ a. seen a ≡ refused number at) → IfOk s (λ b. AnsweredBy r b) → IfOk s (λ b. Opens (Err (Refused number at)) b)

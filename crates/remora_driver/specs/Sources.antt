@@ -18,9 +18,10 @@ use Rattle.machine_table.specs.Codes.{Code}
 use Rattle.code_text.specs.Blame.{Blame, CodeText}
 use Rattle.code_text.specs.declared.refusal.CodeKind.{CodeKind}
 use Rattle.remora_driver.specs.declared.reply.Reply.{Reply}
+use Rattle.remora_driver.specs.declared.telling.Telling.{Telling}
 use Rattle.remora_driver.specs.declared.errors.SourceRefusal.{SourceRefusal}
 use Rattle.remora_driver.specs.declared.errors.SourceRefusal.TheVariants as no_code
-use Rattle.remora_driver.specs.Due.{Answer, front, IsRefused, text_number, text_place, shown, trapped, stuck, still_running}
+use Rattle.remora_driver.specs.Due.{Answer, front, IsRefused, text_number, text_place, reached, trapped, stuck, still_running}
 use Rattle.remora_driver.specs.Jobs.{longest_code}
 use Rattle.remora_driver.specs.Programs.{IsSource, IsAcceptedSource, IsProgram}
 
@@ -81,9 +82,9 @@ ReadsCode bytes (Err no_code.Memory) = ⊤
 abbrev pub seen : Reply → Answer
 seen a = record { status = a.status; text = a.text.items }
 
--- the answer that shows what a machine answered
-abbrev pub told : Outcome → Answer
-told (outcome.Done a) = shown a
-told (outcome.Trap kind) = trapped kind
-told outcome.Going = still_running
-told (outcome.Stuck kind) = stuck kind
+-- the answer that shows what a machine answered after so many steps, where a value is told so
+abbrev pub told : Telling → ℕ → Outcome → Answer
+told how n (outcome.Done a) = reached how n a
+told how n (outcome.Trap kind) = trapped kind
+told how n outcome.Going = still_running
+told how n (outcome.Stuck kind) = stuck kind

@@ -13,9 +13,11 @@ mod laws;
 mod reducing;
 mod reply;
 mod running;
+mod soaking;
 mod source;
 mod status;
 mod task;
+mod telling;
 mod texts;
 mod top;
 

@@ -20,6 +20,7 @@ use crate::job::Job;
 use crate::reducing::{Reduction, reduce_program};
 use crate::running::run_code;
 use crate::source::check_source;
+use crate::telling::Telling;
 use array_values::Array;
 use core_syntax::{Checked, Memory};
 use machine_table::Code;
@@ -51,7 +52,7 @@ impl Task {
         ensures { TellsDue (IsTaskDue self.now given.now) result }
     {
         match self {
-            Task::Run { code, budget } => run_code(alloc, code, given, *budget),
+            Task::Run { code, budget } => run_code(alloc, Telling::Value, code, given, *budget),
             Task::Reduce { checked, budget } => reduce_checked(alloc, checked, given, *budget),
         }
     }
