@@ -17,7 +17,7 @@ use Rattle.name_resolve.proofs.BinderLemmas.{length_names}
 use Rattle.name_resolve.proofs.ExprLemmas.{expr_short, atom_short, expr_worded, atom_worded, exprs-none, atoms-none}
 use Rattle.name_resolve.proofs.LiteralLemmas.{applied_refused, applied_to, dims_refused, literal_is, atoms_refused, atoms_read, cells_refused, cells_read}
 use Rattle.name_resolve.proofs.Loops.{loop_step, loop_end}
-use Rattle.name_resolve.proofs.Refusals.{is_refused, same_answer, carried}
+use Rattle.name_resolve.proofs.Refusals.{is_refused, same_answer}
 use Rattle.name_resolve.proofs.RoomLemmas.{room_less, room_under, item_size}
 use Rattle.name_resolve.proofs.UnboxLemmas.{atom_refused, atom_read, body_refused, unbox_read}
 use Rattle.name_resolve.proofs.exprs.+exprs.Goals as goal
@@ -221,13 +221,14 @@ list_atom-returns-clause-read t c =
 
 pub unbox-returns-in-Ok-clause-read : goal.unbox-returns-in-Ok-clause-read
 unbox-returns-in-Ok-clause-read t c =
-    let kept = c.array_ty.ensures.same ∙ c.in_ok-boxed.ensures.same in
+    let kept = c.in-Ok.ensures.same ∙ c.in_ok-boxed.ensures.same in
     let h = body_refused c.args.scopes.now c.args.at (form_of c.args.first.now) (forms_of c.args.rest.now) (unboxing_of c.in_ok-unboxing.unboxing) c.in_ok-unboxing.ensures.read
     (expr c.args.scopes.now (form_of c.in_ok-unboxing.unboxing.boxed.now)) (c.in_ok-unboxing.ensures.last c.args.scopes.now) (expr_of c.in_ok-boxed.boxed) c.in_ok-boxed.ensures.read (ty_of c.in-Ok.answer)
     (subst (λ Γ. array_ty Γ (form_of c.in_ok-unboxing.unboxing.answer.now) ≡ Ok (ty_of c.in-Ok.answer)) c.in_ok-boxed.ensures.same c.in-Ok.ensures.read)
-    c.in-Ok-Err.refusal
-    (subst (λ Γ. Refuses c.in-Ok-Err.refusal (expr (inside (unboxing_of c.in_ok-unboxing.unboxing) Γ) (form_of c.in_ok-unboxing.unboxing.body.now))) kept c.in-Ok-Err.ensures) in
-    ?
+    c.in-Err-unboxed_body.refusal
+    (subst (λ Γ. Refuses c.in-Err-unboxed_body.refusal (expr (inside (unboxing_of c.in_ok-unboxing.unboxing) Γ) (form_of c.in_ok-unboxing.unboxing.body.now))) kept c.in-Err-unboxed_body.ensures.read) in
+    subst (λ e. Refuses e (unbox c.args.scopes.now c.args.at (form_of c.args.first.now) (forms_of c.args.rest.now) (last_in c.args.scopes.now (form_of c.args.first.now)) (λ Δ. nth_expr 1 Δ (forms_of c.args.rest.now))))
+    (sym (c.given_up-in-Err-unboxed_body.ensures ∙ c.given_up.ensures)) h
 
 pub unbox-returns-in-Ok-unboxed_body-clause-read : goal.unbox-returns-in-Ok-unboxed_body-clause-read
 unbox-returns-in-Ok-unboxed_body-clause-read t c =
