@@ -36,6 +36,10 @@ first_of_four c d x y z z' w v e = cc
 pub last_of_four : (c d x y z z' w v : List ℕ) → ◌≡◌ {A = List (List ℕ)} (c ∷ x ∷ z ∷ w ∷ []) (d ∷ y ∷ z' ∷ v ∷ []) → w ≡ v
 last_of_four c d x y z z' w v e = cc
 
+-- a command that isn't found to be `soak` is another
+pub not_soak : (command : List ℕ) (b : Bool) → b ≡ bytes_eq command (codes "soak") → b ≡ false → command ≡ codes "soak" → ⊥
+not_soak command b tells e is = let yes : bytes_eq command (codes "soak") ≡ true = (bytes_eq-Decides command (codes "soak")).1 is in let no : true ≡ false = sym yes ∙ sym tells ∙ e in absurd (cc)
+
 -- two words of another command than `soak` ask for what that command does with a file
 pub plain_decided : (command word : List ℕ) (o : Option Job) → (command ≡ codes "soak" → ⊥) → o ≡ plain_job command → Decided (command ∷ word ∷ []) o
 plain_decided command word (Some j) other e = plain command word refl (sym e)

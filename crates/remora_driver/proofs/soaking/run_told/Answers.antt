@@ -1,5 +1,6 @@
-use Rattle.std.proofs.Common.{subst, []}
+use Rattle.std.proofs.Common.{refl, subst, [], Err}
 use Rattle.machine_table.specs.Codes.{Code}
+use Rattle.remora_driver.specs.declared.errors.SourceRefusal.{SourceRefusal}
 use Rattle.remora_driver.specs.Due.{refused, run_refused, runs, IsCodeDue, IsRunDue}
 use Rattle.remora_driver.specs.Jobs.{usual_budget}
 use Rattle.remora_driver.specs.Sources.{Compiles}
@@ -13,4 +14,8 @@ returns-in-Ok c =
     (λ a due. runs is.program is.notes is.runs (subst (λ (code : Code). IsCodeDue c.args.how code [] usual_budget a) is.compiled due)) c.run_code.ensures
 
 pub returns-in-Err-Refused : goal.returns-in-Err-Refused
-returns-in-Err-Refused c = ?
+returns-in-Err-Refused c = rw c.in-Err-Refused.field-0-is (
+  refused c.in-Err-Refused.number c.in-Err-Refused.span,
+  run_refused c.in-Err-Refused.number c.in-Err-Refused.span (subst (λ (e : SourceRefusal). Compiles c.args.source.now (Err e)) c.in-Err-Refused.field-0-is c.in-Err-Refused.ensures) refl,
+  refl,
+)
