@@ -59,7 +59,11 @@ fn ends_with(
     let mut out = MemSink::new(alloc, 64, 5, vec![in alloc; of_sink]?)?;
     let ended = remora(alloc, words.as_slice(), &mut program, &mut data, &mut out);
     assert_eq!(rt; ended.code(), status, "{of_program} {of_data} {of_sink}");
-    assert_eq!(rt; out.written(), text.as_bytes(), "{of_program} {of_data} {of_sink}");
+    assert_eq!(rt;
+        out.written(),
+        text.as_bytes(),
+        "{of_program} {of_data} {of_sink}"
+    );
     Ok(())
 }
 
