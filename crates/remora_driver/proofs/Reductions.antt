@@ -1,5 +1,5 @@
 -- What is due for a reduction, from what steps of the program's start say.
-use Rattle.std.proofs.Common.{◌≡◌, refl, sym, ap, ◌∙◌, subst, ℕ, List, Result, Ok, Err}
+use Rattle.std.proofs.Common.{refl, ap, subst, ℕ, List, Result, Ok, Err}
 use Rattle.std.specs.Prelude.{IfOk}
 use Rattle.std.proofs.Math.Logic.{∥∥₁_map}
 use Rattle.core_syntax.specs.declared.checked.Checked.{Checked}

@@ -5,7 +5,6 @@ use Rattle.std.proofs.lemmas.Bool.Decides.{nat_tests}
 use Rattle.core_syntax.specs.declared.checked.Checked.{Checked}
 use Rattle.core_syntax.specs.declared.program.Program.{Program as Tree}
 use Rattle.core_syntax.specs.declared.span.Span.{Span}
-use Rattle.core_syntax.specs.declared.ty.Ty.{Ty as TyTree}
 use Rattle.core_syntax.specs.Lists.{each}
 use Rattle.core_syntax.specs.NormTypes.{norm_ty}
 use Rattle.core_syntax.specs.Refine.{ty_of}
@@ -28,7 +27,7 @@ use Rattle.remora_driver.specs.declared.telling.Telling.TheVariants as telling
 use Rattle.remora_driver.specs.declared.task.Task.{Task}
 use Rattle.remora_driver.specs.declared.task.Task.TheVariants as task
 use Rattle.remora_driver.specs.Calls.{TellsDue}
-use Rattle.remora_driver.specs.Due.{Answer, refused, front, IsCodeDue, IsRefused, run_refused, runs, reduce_refused, reduces, text_too_long, no_code, executes, IsCheckDue, IsBuildDue, IsSoakDue, IsJobDue, TakesData}
+use Rattle.remora_driver.specs.Due.{refused, front, IsCodeDue, IsRefused, run_refused, runs, reduce_refused, reduces, text_too_long, no_code, executes, IsCheckDue, IsBuildDue, IsSoakDue, IsJobDue, TakesData}
 use Rattle.remora_driver.specs.Jobs.{longest_code}
 use Rattle.remora_driver.specs.Programs.{IsAcceptedSource}
 use Rattle.remora_driver.specs.Reductions.{notes_of}

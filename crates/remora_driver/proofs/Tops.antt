@@ -78,11 +78,16 @@ module _ (job : Job) (none : ¬ (IsTrue (reads_source job))) where
 
   pub sourceless_due : {E : Type 0} (bytes : List ℕ) (left input : Option (List ℕ)) (r : Result Reply E) → IfOk r (λ a. IsDueOnInput (TakesData job bytes) (IsJobDue job bytes) input (seen a)) → IfOk r (λ a. IsJobDueFor job left input (seen a))
   sourceless_due bytes left input (Ok a) h =
-      let some = told_some left in
-      (some.0, h.0, some.1, h.1, due_by_further (TakesData job bytes) (TakesData job some.0) (IsJobDue job bytes) (IsJobDue job some.0) h.0 (seen a) (
-        λ takes. absurd (sourceless_takes bytes takes),
-        λ takes. absurd (sourceless_takes some.0 takes),
-      ) (λ given due. job_due_same bytes some.0 given (seen a) due) h.2)
+      let some = told_some left in (
+        some.0,
+        h.0,
+        some.1,
+        h.1,
+        due_by_further (TakesData job bytes) (TakesData job some.0) (IsJobDue job bytes) (IsJobDue job some.0) h.0 (seen a) (
+          λ takes. absurd (sourceless_takes bytes takes),
+          λ takes. absurd (sourceless_takes some.0 takes),
+        ) (λ given due. job_due_same bytes some.0 given (seen a) due) h.2,
+      )
   sourceless_due bytes left input (Err e) h = tt
 
   -- so it isn't asked for as one that takes some

@@ -32,7 +32,7 @@ returns-in-Reduce c =
     (begun_opened (Reduce c.in-Reduce.budget) c.args.bytes.now c.reduce_task.result c.opened-in-Reduce.result c.reduce_task.ensures c.opened-in-Reduce.ensures)
 
 pub soaked-requires : goal.soaked-requires
-soaked-requires c = subst IsAsked c.in-Soak.is c.requires
+soaked-requires c = let asked = subst IsAsked c.in-Soak.is c.requires in record { low = asked.0; high = asked.1 }
 
 pub returns-in-Soak : goal.returns-in-Soak
 returns-in-Soak c =

@@ -1,4 +1,4 @@
-use Rattle.std.proofs.Common.{subst, sym, ◌∙◌, ℕ, List, []}
+use Rattle.std.proofs.Common.{subst, ◌∙◌, ℕ, List, []}
 use Rattle.remora_driver.specs.declared.telling.Telling.TheVariants.{Soak}
 use Rattle.remora_driver.specs.Calls.{TellsDue}
 use Rattle.remora_driver.specs.Due.{IsRunDue}
