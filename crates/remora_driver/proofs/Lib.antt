@@ -18,3 +18,4 @@ pub mod Sourced
 pub mod Statuses
 pub mod Tasks
 pub mod Tops
+pub mod Unrefused

@@ -1,6 +1,7 @@
 // The top call.
-ghost use Rattle.std.specs.Prelude.{◌≡◌, ◌≢◌, ◌⊎◌, ◌+◌, ◌≤◌, ℕ, List, map, string_bytes, IfOk, IfErr, IsTrue};
+ghost use Rattle.std.specs.Prelude.{◌≡◌, ◌≢◌, ◌⊎◌, ◌+◌, ◌<◌, ◌≤◌, ℕ, List, map, string_bytes, IfOk, IfErr, IsTrue};
 ghost use Rattle.std.specs.Io.KnownBytes.{IsAtEnd, Appends};
+ghost use Rattle.core_syntax.specs.declared.span.Span.{Span};
 ghost use Rattle.rem_base.specs.Counts.{Rose};
 ghost use Rattle.rem_base.specs.Taken.{AppendsFront, TakesAtMost};
 ghost use Rattle.remora_driver.specs.Due.{Answer as Due, IsDue, IsJobDue, TakesData};
@@ -65,6 +66,7 @@ fn task_answer<I: Source>(alloc: Global, task: &Task, input: &mut I) -> Result<R
     ensures no_fault { result ≢ Err Halt.ReadFault → I.faults input.new ≡ I.faults input.old }
     ensures no_less { I.faults input.old ≤ I.faults input.new }
     ensures unread { ¬ (HasInputs task.now) → input.new ≡ input.old }
+    ensures unread_refused { IfOk result (λ a. (number : ℕ) (at : Span) → a.status ≡ Status.Refused number at → input.new ≡ input.old) }
     ensures taken { TakesAtMost (longest_data + 1) (I.left input.old) (I.left input.new) }
     ensures end { IfOk result (λ a. a.status ≡ Status.Ok → HasInputs task.now → IsAtEnd (I.left input.new)) }
 {
@@ -88,6 +90,7 @@ fn bytes_answer<I: Source>(
     ensures no_fault { result ≢ Err Halt.ReadFault → I.faults input.new ≡ I.faults input.old }
     ensures no_less { I.faults input.old ≤ I.faults input.new }
     ensures unread { ¬ (TakesData job bytes.now) → input.new ≡ input.old }
+    ensures unread_refused { IfOk result (λ a. (number : ℕ) (at : Span) → a.status ≡ Status.Refused number at → input.new ≡ input.old) }
     ensures taken { TakesAtMost (longest_data + 1) (I.left input.old) (I.left input.new) }
     ensures end { IfOk result (λ a. a.status ≡ Status.Ok → TakesData job bytes.now → IsAtEnd (I.left input.new)) }
 {
@@ -112,6 +115,8 @@ fn source_answer<P: Source, I: Source>(
     ensures no_fault { result ≢ Err Halt.ReadFault → (P.faults program.new ≡ P.faults program.old) × (I.faults input.new ≡ I.faults input.old) }
     ensures no_less { (P.faults program.old ≤ P.faults program.new) × (I.faults input.old ≤ I.faults input.new) }
     ensures unread { ((bytes : List ℕ) → IsTold (P.left program.old) bytes → ¬ (TakesData job bytes)) → input.new ≡ input.old }
+    ensures unread_refused { IfOk result (λ a. (number : ℕ) (at : Span) → a.status ≡ Status.Refused number at → input.new ≡ input.old) }
+    ensures unread_fault { P.faults program.old < P.faults program.new → input.new ≡ input.old }
     ensures taken { TakesAtMost (longest job + 1) (P.left program.old) (P.left program.new) × TakesAtMost (longest_data + 1) (I.left input.old) (I.left input.new) }
     ensures end { IfOk result (λ a. a.status ≡ Status.Ok → IsAtEnd (P.left program.new)) }
     ensures input_end { ((bytes : List ℕ) → IsTold (P.left program.old) bytes → TakesData job bytes) → IfOk result (λ a. a.status ≡ Status.Ok → IsAtEnd (I.left input.new)) }
@@ -138,6 +143,8 @@ fn job_answer<P: Source, I: Source>(
     ensures no_less { (P.faults program.old ≤ P.faults program.new) × (I.faults input.old ≤ I.faults input.new) }
     ensures program_unread { ¬ (IsTrue (reads_source job)) → program.new ≡ program.old }
     ensures unread { ((bytes : List ℕ) → IsTold (P.left program.old) bytes → ¬ (TakesData job bytes)) → input.new ≡ input.old }
+    ensures unread_refused { IfOk result (λ a. (number : ℕ) (at : Span) → a.status ≡ Status.Refused number at → input.new ≡ input.old) }
+    ensures unread_fault { P.faults program.old < P.faults program.new → input.new ≡ input.old }
     ensures taken { TakesAtMost (longest job + 1) (P.left program.old) (P.left program.new) × TakesAtMost (longest_data + 1) (I.left input.old) (I.left input.new) }
     ensures end { IsTrue (reads_source job) → IfOk result (λ a. a.status ≡ Status.Ok → IsAtEnd (P.left program.new)) }
     ensures input_end { ((bytes : List ℕ) → IsTold (P.left program.old) bytes → TakesData job bytes) → IfOk result (λ a. a.status ≡ Status.Ok → IsAtEnd (I.left input.new)) }
@@ -163,6 +170,8 @@ fn answer<P: Source, I: Source>(
     ensures no_less { (P.faults program.old ≤ P.faults program.new) × (I.faults input.old ≤ I.faults input.new) }
     ensures program_unread { ¬ (AsksForSource (map string_bytes words.now)) → program.new ≡ program.old }
     ensures input_unread { AsksForNone (map string_bytes words.now) (P.left program.old) → input.new ≡ input.old }
+    ensures input_unread_refused { IfOk result (λ a. (number : ℕ) (at : Span) → a.status ≡ Status.Refused number at → input.new ≡ input.old) }
+    ensures input_unread_fault { P.faults program.old < P.faults program.new → input.new ≡ input.old }
     ensures taken { (job : Job) → IsJob (map string_bytes words.now) job → TakesAtMost (longest job + 1) (P.left program.old) (P.left program.new) }
     ensures input_taken { TakesAtMost (longest_data + 1) (I.left input.old) (I.left input.new) }
     ensures end { AsksForSource (map string_bytes words.now) → IfOk result (λ a. a.status ≡ Status.Ok → IsAtEnd (P.left program.new)) }
@@ -191,10 +200,12 @@ fn write_answer<O: Sink>(out: &mut O, answer: Reply) -> Status
 /// Does what the words ask for (docs/LANGUAGE.md, "Calls"), and says how it ended.
 ///
 /// `words` leaves out the program's own name. `program` is read to its end where the words ask for a job on a program source,
-/// and is left alone where they don't, or ask for the soak program. Then `input` is read to its end where the program or the code has inputs and isn't refused, and is left alone
-/// where not. Of either, where it is too long, one byte past the limit is taken. The whole text is made before the first write to
-/// `out`. The status is that of the answer, whose text was written whole, or one of `ReadFault` and `Memory`, where nothing was
-/// written, and `WriteFault`, where a front of the text was.
+/// and is left alone where they don't, or ask for the soak program. Then `input` is read to its end where the program or the
+/// code has inputs and isn't refused, and is left alone where not: with each `Refused`, and where a read of `program` failed,
+/// whatever the two tell (`input_unread_refused`, `input_unread_fault`), and where the program source tells bytes that take no
+/// data (`input_unread`). Of either, where it is too long, one byte past the limit is taken. The whole text is made before the
+/// first write to `out`. The status is that of the answer, whose text was written whole, or one of `ReadFault` and `Memory`,
+/// where nothing was written, and `WriteFault`, where a front of the text was.
 pub fn remora<P: Source, I: Source, O: Sink>(
     alloc: Global,
     words: &[String],
@@ -221,6 +232,8 @@ pub fn remora<P: Source, I: Source, O: Sink>(
     ensures no_write { (result ≡ Status.ReadFault) ⊎ (result ≡ Status.Memory) → out.new ≡ out.old }
     ensures program_unread { ¬ (AsksForSource (map string_bytes words.now)) → program.new ≡ program.old }
     ensures input_unread { AsksForNone (map string_bytes words.now) (P.left program.old) → input.new ≡ input.old }
+    ensures input_unread_refused { (number : ℕ) (at : Span) → result ≡ Status.Refused number at → input.new ≡ input.old }
+    ensures input_unread_fault { P.faults program.old < P.faults program.new → input.new ≡ input.old }
     ensures taken { (job : Job) → IsJob (map string_bytes words.now) job → TakesAtMost (longest job + 1) (P.left program.old) (P.left program.new) }
     ensures input_taken { TakesAtMost (longest_data + 1) (I.left input.old) (I.left input.new) }
     ensures read_to_end { result ≡ Status.Ok → AsksForSource (map string_bytes words.now) → IsAtEnd (P.left program.new) }

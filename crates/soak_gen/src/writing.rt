@@ -80,8 +80,8 @@ fn put_main(out: &mut Vec<u8>, count: u32) -> Result<(), Memory>
     put(out, b")))\n")
 }
 
-/// The source of the soak program with `k` definitions (docs/LANGUAGE.md, "The soak program"), which adds up
-/// `i * i + 1` for `i` from 0 to `k - 1`. It is given for `k` from 1 to 4,096, and answers `Memory` where there is none.
+/// The source of the soak program with `k` definitions (docs/LANGUAGE.md, "The soak program"), for `k` from 1 to 4,096.
+/// It answers `Memory` where there is none.
 pub fn program(alloc: Global, k: u32) -> Result<Vec<u8>, Memory>
     requires low { 1 ≤ k }
     requires high { k ≤ 4096 }

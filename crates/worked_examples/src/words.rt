@@ -2,7 +2,7 @@
 use crate::call::prints;
 use std::test::Fail;
 
-static NO_CALLS: [&str; 17] = [
+static NO_CALLS: [&str; 19] = [
     "",
     "run",
     "run f --steps",
@@ -18,7 +18,9 @@ static NO_CALLS: [&str; 17] = [
     "soak 0",
     "soak 4097",
     "soak +4",
+    "soak -4",
     "soak 00004",
+    "soak 4 5",
     "soak 4 --steps 7",
 ];
 
@@ -41,6 +43,13 @@ fn other_words_are_no_call(rt: HostRuntime) -> Result<(), Fail> {
 // What the soak program comes to, whatever the program source holds: the sum of I * I + 1, after 20 * K + 14 steps.
 #[test]
 fn soak_runs_its_program(rt: HostRuntime) -> Result<(), Fail> {
+    prints(
+        &rt,
+        rt.alloc(),
+        "soak 1",
+        b"",
+        "soak 1: 34 steps, (array () 1)",
+    )?;
     prints(
         &rt,
         rt.alloc(),

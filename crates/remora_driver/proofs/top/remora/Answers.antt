@@ -1,8 +1,9 @@
-use Rattle.std.proofs.Common.{sym, ◌∙◌, subst, map, string_bytes}
+use Rattle.std.proofs.Common.{◌≡◌, sym, ◌∙◌, subst, map, string_bytes}
 use Rattle.std.specs.Io.KnownBytes.{IsAtEnd}
 use Rattle.remora_driver.specs.Top.{IsAnswer}
 use Rattle.remora_driver.proofs.Tops.{ended_so}
 use Rattle.remora_driver.proofs.Meant.{due_means}
+use Rattle.remora_driver.proofs.Unrefused.{refused_so}
 use Rattle.remora_driver.proofs.top.remora.Goals as goal
 
 pub returns-in-Ok-clause-meant : goal.returns-in-Ok-clause-meant
@@ -21,3 +22,7 @@ returns-in-Ok-clause-read_to_end g c = λ ok asks.
 pub returns-in-Ok-clause-input_to_end : goal.returns-in-Ok-clause-input_to_end
 returns-in-Ok-clause-input_to_end g c = λ ok asks.
     ended_so (IsAtEnd (g.I.Source.left c.answer.new.input)) c.answer.result c.in-Ok.answer c.in-Ok.is (c.answer.ensures.input_end asks) (sym (c.write_answer.ensures.written (subst IsAnswer (sym ok) tt)).0 ∙ ok)
+
+pub returns-in-Ok-clause-input_unread_refused : goal.returns-in-Ok-clause-input_unread_refused
+returns-in-Ok-clause-input_unread_refused g c = λ number at refused.
+    refused_so (c.answer.new.input ≡ c.args.input.now) c.answer.result c.in-Ok.answer c.in-Ok.is c.answer.ensures.input_unread_refused number at (sym (c.write_answer.ensures.written (subst IsAnswer (sym refused) tt)).0 ∙ refused)
