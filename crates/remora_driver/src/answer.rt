@@ -37,7 +37,7 @@ pub fn array_answer(alloc: Global, array: &Array) -> Answer
     }
 }
 
-/// The answer that shows an array that the code of the soak program comes to by so many steps.
+// The answer that shows an array that the code of the soak program comes to by so many steps.
 fn soak_answer(alloc: Global, count: u32, steps: u64, array: &Array) -> Answer
     ensures { Tells (reached (Telling.Soak count) steps array.now) result }
 {

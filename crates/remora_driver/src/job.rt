@@ -58,6 +58,7 @@ impl Job {
     }
 }
 
+// The budget that a word says.
 fn budget(word: &str) -> Option<u64>
     ensures { MatchOption result ((n : ℕ) → ¬ (IsBudget word.now n)) (λ n. IsBudget word.now n) }
 {
@@ -70,6 +71,7 @@ fn budget(word: &str) -> Option<u64>
     }
 }
 
+// The job of a command with this budget.
 fn limited_job(command: &str, budget: u64) -> Option<Job>
     ensures { result ≡ limited_job_of command.now budget }
 {
@@ -81,6 +83,7 @@ fn limited_job(command: &str, budget: u64) -> Option<Job>
     }
 }
 
+// The job of a command without one.
 fn plain_job(command: &str) -> Option<Job>
     ensures { result ≡ plain_job_of command.now }
 {
@@ -91,6 +94,7 @@ fn plain_job(command: &str) -> Option<Job>
     }
 }
 
+// The number of definitions that a word says.
 fn count(word: &str) -> Option<u32>
     ensures { MatchOption result ((n : ℕ) → ¬ (IsCount word.now n)) (λ n. IsCount word.now n) }
 {
