@@ -40,8 +40,8 @@ fn source_program(alloc: Global, source: &[u8]) -> Result<Program, SourceRefusal
 }
 
 // The program with its types and notes.
-fn checked(alloc: Global, program: &Program) -> Result<Checked, SourceRefusal>
-    ensures { ChecksProgram program.now result }
+fn checked(alloc: Global, program: Program) -> Result<Checked, SourceRefusal>
+    ensures { ChecksProgram program result }
 {
     match check(alloc, program) {
         Ok(checked) => Ok(checked),
@@ -56,7 +56,7 @@ fn check_short(alloc: Global, source: &[u8]) -> Result<Checked, SourceRefusal>
     ensures { ChecksSource source.now result }
 {
     match source_program(alloc, source) {
-        Ok(program) => checked(alloc, &program),
+        Ok(program) => checked(alloc, program),
         Err(refusal) => Err(refusal),
     }
 }

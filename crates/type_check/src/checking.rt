@@ -67,23 +67,19 @@ fn found(alloc: Global, p: &Program) -> Result<Findings, TypeRefusal>
 }
 
 /// A program with what was found of it.
-fn with_findings(alloc: Global, p: &Program, findings: Findings) -> Result<Checked, TypeRefusal>
-    requires { IsChecked (program_of p.now) (ty_of findings.body) (each ty_of findings.inputs) (each note_of findings.notes) }
-    ensures program { IfOk result (λ c. c.program ≡ p.now) }
-    ensures memory { IfErr result (λ r. r ≡ TypeRefusal.Memory) }
+fn with_findings(p: Program, findings: Findings) -> Checked
+    requires { IsChecked (program_of p) (ty_of findings.body) (each ty_of findings.inputs) (each note_of findings.notes) }
+    ensures { result.program ≡ p }
 {
     let Findings {
         body,
         inputs,
         notes,
     } = findings;
-    match p.copy(alloc) {
-        Ok(program) => Ok(Checked::new(program, body, inputs, notes)),
-        Err(_) => Err(TypeRefusal::Memory),
-    }
+    Checked::new(p, body, inputs, notes)
 }
 
-/// The program with the type of its body and the types of its inputs, both in normal form, and a
+/// The program, which is moved and not copied, with the type of its body and the types of its inputs, both in normal form, and a
 /// note for each expression of its definitions and its body (docs/LANGUAGE.md, "Notes"). It comes
 /// exactly where the program is typed and all measures hold (docs/LANGUAGE.md, "Typing").
 ///
@@ -96,12 +92,12 @@ fn with_findings(alloc: Global, p: &Program, findings: Findings) -> Result<Check
 /// form asks for, 26 for a box's content, 27 for a type that isn't the written one, 28 for a
 /// definition that is no syntactic value, and 29 and 30 for an input or a result that isn't
 /// printable. `Memory` where there was no memory.
-pub fn check(alloc: Global, p: &Program) -> Result<Checked, TypeRefusal>
-    ensures checked { IfOk result (λ c. c.program ≡ p.now) }
-    ensures refused { IfErr result (λ r. Refuses (program_premises (program_of p.now)) r) }
+pub fn check(alloc: Global, p: Program) -> Result<Checked, TypeRefusal>
+    ensures checked { IfOk result (λ c. c.program ≡ p) }
+    ensures refused { IfErr result (λ r. Refuses (program_premises (program_of p)) r) }
 {
-    match found(alloc, p) {
-        Ok(findings) => with_findings(alloc, p, findings),
+    match found(alloc, &p) {
+        Ok(findings) => Ok(with_findings(p, findings)),
         Err(refusal) => Err(refusal),
     }
 }
