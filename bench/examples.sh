@@ -1,6 +1,7 @@
 #!/bin/sh
-# Runs the command lines that examples/ and docs/TUTORIAL.md show, and compares what they print with the lines shown below
-# them. Where an example reads data, its line has the file: `run FILE < DATA`. It also compares the programs and the data of crate
+# Runs the command lines that examples/, README.md and docs/TUTORIAL.md show, and compares what they print with the lines shown
+# below them. A program that a page shows with its file's name in the first line is written to that file. Where an example reads
+# data, its line has the file: `run FILE < DATA`. It also compares the programs and the data of crate
 # worked_examples with those of examples/. It is no part of the gate, and fails where something differs.
 #
 # usage: bench/examples.sh [PROGRAM]    PROGRAM is a built program, which stands for the repository's own
@@ -24,17 +25,21 @@ ln -s "$top/examples" examples
 failed=0
 
 # Writes each command line that a text shows to N.command, and the lines below it to N.due. A line of an example's comment
-# begins with `;   `, one of the tutorial stands alone; an empty line or the end of the block ends what is shown.
+# begins with `;   `, one of a page stands alone; an empty line or the end of the block ends what is shown. A block that begins
+# with `; NAME.remora: ` is written to that file.
 shown() {
     rm -f ./*.command ./*.due
     awk '
+        /^; [a-z]+\.remora: / { program = substr($2, 1, length($2) - 1) }
+        /^```$/ { program = "" }
+        program { print >program; next }
         { sub(/^;   /, "") }
         /^\$ / { file = sprintf("%03d", ++n); print substr($0, 3) >(file ".command"); printf "" >(file ".due"); next }
         /^(;|```)?$/ { file = "" }
         file { print >(file ".due") }' "$1"
 }
 
-for text in examples/*.remora "$top/docs/TUTORIAL.md"; do
+for text in examples/*.remora "$top/README.md" "$top/docs/TUTORIAL.md"; do
     shown "$text"
     for command in *.command; do
         [ -e "$command" ] || continue

@@ -1,8 +1,13 @@
 -- What is due, from what an answer is.
-use Rattle.std.proofs.Common.{◌≡◌, refl, ap, ◌∙◌, ℕ, List, [], ◌++◌, length, replicate, Option, Some, None}
+use Rattle.std.proofs.Common.{◌≡◌, refl, sym, ap, ◌∙◌, ℕ, Bool, true, false, List, [], ◌++◌, length, replicate, Option, Some, None}
+use Rattle.std.specs.Prelude.{IsTrue}
 use Rattle.std.specs.Io.KnownBytes.{IsAtEnd, Consumes}
 use Rattle.std.proofs.lemmas.List.{append-nil, length-replicate}
 use Rattle.remora_driver.specs.Top.{IsTold}
+
+-- what is false isn't true
+pub not_true : (b : Bool) → b ≡ false → IsTrue b → ⊥
+not_true b e h = let x : false ≡ true = sym e ∙ h in cc
 
 -- bytes that were read to their end are those that were left
 pub told_read : (old new : Option (List ℕ)) (bytes : List ℕ) → Consumes old new bytes → IsAtEnd new → IsTold old bytes

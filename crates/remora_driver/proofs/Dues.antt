@@ -1,6 +1,6 @@
 -- What is due, from what the code and the machine say.
 use Rattle.std.proofs.Common.{◌≡◌, refl, sym, ap, subst, ℕ, suc, ◌+◌, ◌<◌, max, arith, List, [], ◌∷◌, length, Option, Some, None, Result, Ok, Err}
-use Rattle.std.specs.Prelude.{IfOk, IfErr, IfSome}
+use Rattle.std.specs.Prelude.{IfOk, IfErr, IfSome, IsTrue}
 use Rattle.core_syntax.specs.declared.span.Span.{Span}
 use Rattle.core_syntax.specs.Data.{FitsType}
 use Rattle.core_syntax.specs.Lists.{each, EachTwo}
@@ -21,11 +21,13 @@ use Rattle.machine_table.specs.ValueRules.{value_rules}
 use Rattle.remora_driver.specs.declared.errors.SourceRefusal.{SourceRefusal}
 use Rattle.remora_driver.specs.declared.errors.SourceRefusal.TheVariants as no_text
 use Rattle.remora_driver.specs.declared.reply.Reply.{Reply}
+use Rattle.remora_driver.specs.declared.running.Ended.{Ended}
+use Rattle.remora_driver.specs.declared.telling.Telling.{Telling}
 use Rattle.remora_driver.specs.Calls.{RefusesBuild}
 use Rattle.remora_driver.specs.Due.{Answer, written, refused, accepted, front, usage, HasCodeEnd, ends, goes_on, IsRefused, too_long, IsCheckDue, check_refused, checks, IsBuildDue, build_refused, builds, run_refused, text_too_long, reduce_refused, without, IsJobDue, TakesData, no_job, does}
-use Rattle.remora_driver.specs.Jobs.{longest, IsJob}
+use Rattle.remora_driver.specs.Jobs.{longest, reads_source, IsJob}
 use Rattle.remora_driver.specs.declared.job.Job.{Job}
-use Rattle.remora_driver.specs.declared.job.Job.TheVariants.{Check, Build, Run, Exec, Reduce}
+use Rattle.remora_driver.specs.declared.job.Job.TheVariants.{Check, Build, Run, Exec, Reduce, Soak}
 use Rattle.remora_driver.specs.Programs.{IsAcceptedSource}
 use Rattle.remora_driver.specs.Sources.{IsCompiled, Compiles, seen, told}
 use Rattle.remora_driver.specs.Top.{IsDueFor, IsJobDueFor}
@@ -34,18 +36,19 @@ use Rattle.remora_driver.proofs.Answers.{told_some, some_bytes}
 -- ---- codes
 
 -- what a machine that has done nothing answers
-pub answered : {E : Type 0} (r : Result Outcome E) (code own : Code) (inputs owned : List Array) (budget steps n : ℕ) → own ≡ code → owned ≡ inputs → steps ≡ 0 → IfOk r (λ o. Answers own owned (max budget steps) n o) → IfOk r (λ o. (k : ℕ) × Answers code inputs budget k o)
-answered (Ok o) code own inputs owned budget steps n same are none h =
+pub answered : {E : Type 0} (r : Result Ended E) (code own : Code) (inputs owned : List Array) (budget steps : ℕ) → own ≡ code → owned ≡ inputs → steps ≡ 0 → IfOk r (λ e. Answers own owned (max budget steps) e.steps e.outcome) → IfOk r (λ e. Answers code inputs budget e.steps e.outcome)
+answered (Ok e) code own inputs owned budget steps same are none h =
     let most : max budget steps ≡ budget = omega (arith, none) in
-    (n, subst (λ (c : Code). Answers c inputs budget n o) same (subst (λ (xs : List Array). Answers own xs budget n o) are (subst (λ (m : ℕ). Answers own owned m n o) most h)))
-answered (Err e) code own inputs owned budget steps n same are none h = tt
+    subst (λ (c : Code). Answers c inputs budget e.steps e.outcome) same
+    (subst (λ (xs : List Array). Answers own xs budget e.steps e.outcome) are (subst (λ (m : ℕ). Answers own owned m e.steps e.outcome) most h))
+answered (Err e) code own inputs owned budget steps same are none h = tt
 
 -- how a code ends, from what the machine answers
-pub code_ends : (code : Code) (inputs : List Array) (budget : ℕ) (o : Outcome) → ((k : ℕ) × Answers code inputs budget k o) → HasCodeEnd code budget (each array_data inputs) (told o)
-code_ends code inputs budget (outcome.Done a) (k, h) = ends inputs k (table.Done a) refl h.0 h.1 refl
-code_ends code inputs budget (outcome.Trap t) (k, h) = ends inputs k (table.Trap t) refl h.0 h.1 refl
-code_ends code inputs budget (outcome.Stuck t) (k, h) = ends inputs k (table.Stuck t) refl h.0 h.1 refl
-code_ends code inputs budget outcome.Going (k, h) =
+pub code_ends : (how : Telling) (code : Code) (inputs : List Array) (budget k : ℕ) (o : Outcome) → Answers code inputs budget k o → HasCodeEnd how code budget (each array_data inputs) (told how k o)
+code_ends how code inputs budget k (outcome.Done a) h = ends inputs k (table.Done a) refl h.0 h.1 refl
+code_ends how code inputs budget k (outcome.Trap t) h = ends inputs k (table.Trap t) refl h.0 h.1 refl
+code_ends how code inputs budget k (outcome.Stuck t) h = ends inputs k (table.Stuck t) refl h.0 h.1 refl
+code_ends how code inputs budget k outcome.Going h =
     goes_on inputs refl (λ n o within end. never code.blocks budget n (Goes (start value_rules code.blocks inputs)) o h.1.0 within end h.1.1) refl
 
 -- there are as many arrays that fit as types
@@ -87,12 +90,13 @@ built_due bytes a (Err e) due h = tt
 -- ---- calls
 
 -- bytes that are too long are refused whatever the data, and take none
-job_too_long : (job : Job) (bytes given : List ℕ) (a : Answer) → longest job < length bytes → a ≡ refused 31 front → IsJobDue job bytes given a
-job_too_long Check bytes given a long is = check_refused 31 front (too_long long refl refl) is
-job_too_long Build bytes given a long is = build_refused 31 front (too_long long refl refl) is
-job_too_long (Run budget) bytes given a long is = run_refused 31 front (too_long long refl refl) is
-job_too_long (Exec budget) bytes given a long is = text_too_long long is
-job_too_long (Reduce budget) bytes given a long is = reduce_refused 31 front (too_long long refl refl) is
+job_too_long : (job : Job) (bytes given : List ℕ) (a : Answer) → IsTrue (reads_source job) → longest job < length bytes → a ≡ refused 31 front → IsJobDue job bytes given a
+job_too_long Check bytes given a reads long is = check_refused 31 front (too_long long refl refl) is
+job_too_long Build bytes given a reads long is = build_refused 31 front (too_long long refl refl) is
+job_too_long (Run budget) bytes given a reads long is = run_refused 31 front (too_long long refl refl) is
+job_too_long (Exec budget) bytes given a reads long is = text_too_long long is
+job_too_long (Reduce budget) bytes given a reads long is = reduce_refused 31 front (too_long long refl refl) is
+job_too_long (Soak count) bytes given a reads long is = absurd (cc)
 
 takes_no_data : (job : Job) (bytes : List ℕ) → longest job < length bytes → TakesData job bytes → ⊥
 takes_no_data Check bytes long takes = takes
@@ -100,17 +104,18 @@ takes_no_data Build bytes long takes = takes
 takes_no_data (Run budget) bytes long takes = let short = takes.1.short in absurd (omega (arith, long, short))
 takes_no_data (Exec budget) bytes long takes = let short = takes.1 in absurd (omega (arith, long, short))
 takes_no_data (Reduce budget) bytes long takes = let short = takes.1.short in absurd (omega (arith, long, short))
+takes_no_data (Soak count) bytes long takes = takes
 
 -- a source that is too long is refused
-pub told_too_long : (job : Job) (left input : Option (List ℕ)) (a : Answer) → IfSome left (λ bytes. longest job < length bytes) → a ≡ refused 31 front → IsJobDueFor job left input a
-told_too_long job (Some bytes) input a long is =
+pub told_too_long : (job : Job) (left input : Option (List ℕ)) (a : Answer) → IsTrue (reads_source job) → IfSome left (λ bytes. longest job < length bytes) → a ≡ refused 31 front → IsJobDueFor job left input a
+told_too_long job (Some bytes) input a reads long is =
     let given = told_some input in
-    (bytes, given.0, refl, given.1, without (λ takes. takes_no_data job bytes long takes) (job_too_long job bytes [] a long is))
-told_too_long job None input a long is =
+    (bytes, given.0, refl, given.1, without (λ takes. takes_no_data job bytes long takes) (job_too_long job bytes [] a reads long is))
+told_too_long job None input a reads long is =
     let others = some_bytes (longest job + 1) in
     let given = told_some input in
     let over : longest job < length others.0 = omega (arith, others.1) in
-    (others.0, given.0, tt, given.1, without (λ takes. takes_no_data job others.0 over takes) (job_too_long job others.0 [] a over is))
+    (others.0, given.0, tt, given.1, without (λ takes. takes_no_data job others.0 over takes) (job_too_long job others.0 [] a reads over is))
 
 -- the answer of a job is due
 pub job_is_due : {E : Type 0} (words : List (List ℕ)) (left input : Option (List ℕ)) (job : Job) (r : Result Reply E) → IsJob words job → IfOk r (λ a. IsJobDueFor job left input (seen a)) → IfOk r (λ a. IsDueFor words left input (seen a))

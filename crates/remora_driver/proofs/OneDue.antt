@@ -1,5 +1,5 @@
 -- One answer is due.
-use Rattle.std.proofs.Common.{◌≡◌, sym, ap, ◌∙◌, subst, ℕ, arith, List, ◌++◌, Option, Some, Ok, Err}
+use Rattle.std.proofs.Common.{◌≡◌, sym, ap, ◌∙◌, subst, ℕ, arith, List, [], ◌++◌, Option, Some, Ok, Err}
 use Rattle.std.proofs.lemmas.Option.{none-some}
 use Rattle.std.proofs.Math.Logic.{∥∥₁_elim, ∥∥₁_map, ∥∥₁_map₂}
 use Rattle.std.specs.Coded.{Coded-set, coded_list, coded_ℕ}
@@ -27,12 +27,15 @@ use Rattle.machine_table.specs.ParamTypes.{type_of}
 use Rattle.code_text.specs.Text.{code_text}
 use Rattle.code_text.proofs.Verdicts.{one_code_read}
 use Rattle.remora_driver.specs.declared.job.Job.{Job}
-use Rattle.remora_driver.specs.declared.job.Job.TheVariants.{Check, Build, Run, Exec, Reduce}
-use Rattle.remora_driver.specs.Due.{Answer, written, refused, IsRefused, too_long, unread, unresolved, ill_typed, IsCheckDue, check_refused, checks, types_of_inputs, HasCodeEnd, IsDueOn, IsDueBy, IsCodeDue, IsRunDue, run_refused, runs, IsBuildDue, build_refused, builds, IsExecDue, text_too_long, no_code, executes, HasEnd, IsReductionDue, not_reduced, is_reduced, IsReduceDue, reduce_refused, reduces, IsJobDue, TakesData, IsDue, no_job, does}
-use Rattle.remora_driver.specs.Jobs.{IsJob, plain, limited, plain_job, limited_job}
+use Rattle.remora_driver.specs.declared.job.Job.TheVariants.{Check, Build, Run, Exec, Reduce, Soak}
+use Rattle.remora_driver.specs.declared.telling.Telling.{Telling}
+use Rattle.remora_driver.specs.declared.telling.Telling.TheVariants as telling
+use Rattle.soak_gen.specs.SoakText.{program_text}
+use Rattle.remora_driver.specs.Due.{Answer, written, refused, IsRefused, too_long, unread, unresolved, ill_typed, IsCheckDue, check_refused, checks, types_of_inputs, HasCodeEnd, IsDueOn, IsDueBy, IsCodeDue, IsRunDue, run_refused, runs, IsBuildDue, build_refused, builds, IsExecDue, text_too_long, no_code, executes, HasEnd, IsReductionDue, IsReduceDue, reduce_refused, reduces, IsJobDue, TakesData, IsDue, no_job, does}
+use Rattle.remora_driver.specs.Jobs.{usual_budget, IsJob, plain, limited, soak, plain_job, limited_job}
 use Rattle.remora_driver.specs.Programs.{IsSource, IsAcceptedSource, IsProgram, input_types}
 use Rattle.remora_driver.specs.Texts.{line, accepted_text}
-use Rattle.remora_driver.proofs.JobWords.{first_of_two, two_four, first_of_four, last_of_four}
+use Rattle.remora_driver.proofs.JobWords.{soak_is_no_plain, first_of_two, last_of_two, two_four, first_of_four, last_of_four}
 use Rattle.remora_driver.proofs.OneBlame.{one_blamed, unblamed}
 use Rattle.remora_driver.proofs.OneData.{one_due_on, one_due_by}
 use Rattle.remora_driver.proofs.OneEnd.{one_code_end, one_end}
@@ -130,19 +133,19 @@ one_check bytes a b (checks P t is has e) (checks Q u is' has' h) =
 -- ---- codes of programs
 
 -- what is due for equal codes of the same types
-one_code : (c d : Code) (given : List ℕ) (budget : ℕ) (a b : Answer) → types_of_inputs c ≡ types_of_inputs d → ∥ c ≡ d ∥₁ → IsCodeDue c given budget a → IsCodeDue d given budget b → a ≡ b
-one_code c d given budget a b types same due due' =
-    one_due_on (types_of_inputs d) given (HasCodeEnd c budget) (HasCodeEnd d budget) a b (λ xs fits p q. one_code_end c d same budget (types_of_inputs d) xs fits a b p q)
-    (subst (λ (ts : List Ty). IsDueOn ts given (HasCodeEnd c budget) a) types due) due'
+one_code : (how : Telling) (c d : Code) (given : List ℕ) (budget : ℕ) (a b : Answer) → types_of_inputs c ≡ types_of_inputs d → ∥ c ≡ d ∥₁ → IsCodeDue how c given budget a → IsCodeDue how d given budget b → a ≡ b
+one_code how c d given budget a b types same due due' =
+    one_due_on (types_of_inputs d) given (HasCodeEnd how c budget) (HasCodeEnd how d budget) a b (λ xs fits p q. one_code_end how c d same budget (types_of_inputs d) xs fits a b p q)
+    (subst (λ (ts : List Ty). IsDueOn ts given (HasCodeEnd how c budget) a) types due) due'
 
-one_run : (bytes given : List ℕ) (budget : ℕ) (a b : Answer) → IsRunDue bytes given budget a → IsRunDue bytes given budget b → a ≡ b
-one_run bytes given budget a b (run_refused m p why e) (run_refused n q why' h) = e ∙ one_refusal bytes m n p q why why' ∙ sym h
-one_run bytes given budget a b (run_refused m p why e) (runs P ns is due) = absurd (refused_or_not bytes m p P why is.source)
-one_run bytes given budget a b (runs P ns is due) (run_refused m p why e) = absurd (refused_or_not bytes m p P why is.source)
-one_run bytes given budget a b (runs P ns is due) (runs Q ms is' due') =
+one_run : (how : Telling) (bytes given : List ℕ) (budget : ℕ) (a b : Answer) → IsRunDue how bytes given budget a → IsRunDue how bytes given budget b → a ≡ b
+one_run how bytes given budget a b (run_refused m p why e) (run_refused n q why' h) = e ∙ one_refusal bytes m n p q why why' ∙ sym h
+one_run how bytes given budget a b (run_refused m p why e) (runs P ns is due) = absurd (refused_or_not bytes m p P why is.source)
+one_run how bytes given budget a b (runs P ns is due) (run_refused m p why e) = absurd (refused_or_not bytes m p P why is.source)
+one_run how bytes given budget a b (runs P ns is due) (runs Q ms is' due') =
     let types : types_of_inputs (code_of_program P ns) ≡ types_of_inputs (code_of_program Q ms) =
     ap (λ (R : Program). each type_of (each ty_param (input_types R))) (one_source bytes P Q is.source.means is'.source.means) in
-    one_code (code_of_program P ns) (code_of_program Q ms) given budget a b types (codes_agree bytes P Q ns ms is is') due due'
+    one_code how (code_of_program P ns) (code_of_program Q ms) given budget a b types (codes_agree bytes P Q ns ms is is') due due'
 
 answer_same : (a b : Answer) → a.status ≡ b.status → a.text ≡ b.text → a ≡ b
 answer_same a b e h = λ i. record { status = e i; text = h i }
@@ -160,10 +163,7 @@ one_build bytes a b (builds P ns is ok text) (builds Q ms is' ok' text') =
 
 -- what is due for one program with equal notes
 one_reduction : (P : Program) (ns ms : List NodeNote) (given : List ℕ) (budget : ℕ) (a b : Answer) → ∥ ns ≡ ms ∥₁ → IsReductionDue P ns given budget a → IsReductionDue P ms given budget b → a ≡ b
-one_reduction P ns ms given budget a b same (not_reduced none p) (not_reduced none' q) = p ∙ sym q
-one_reduction P ns ms given budget a b same (not_reduced none p) (is_reduced is end) = absurd (none is)
-one_reduction P ns ms given budget a b same (is_reduced is end) (not_reduced none q) = absurd (none is)
-one_reduction P ns ms given budget a b same (is_reduced is end) (is_reduced is' end') =
+one_reduction P ns ms given budget a b same end end' =
     one_due_on (input_types P) given (HasEnd P ns budget) (HasEnd P ms budget) a b (λ xs fits p q. one_end P ns ms same xs budget a b p q) end end'
 
 one_reduce : (bytes given : List ℕ) (budget : ℕ) (a b : Answer) → IsReduceDue bytes given budget a → IsReduceDue bytes given budget b → a ≡ b
@@ -188,7 +188,7 @@ one_exec bytes given budget a b (executes c s text due) (text_too_long l h) = ab
 one_exec bytes given budget a b (executes c s text due) (no_code k n s' blame h) = absurd (unblamed bytes k n c blame text)
 one_exec bytes given budget a b (executes c s text due) (executes d s' text' due') =
     let same : c ≡ d = one_code_read c d bytes text text' in
-    one_code c d given budget a b (ap types_of_inputs same) ∣ same ∣₁ due due'
+    one_code telling.Value c d given budget a b (ap types_of_inputs same) ∣ same ∣₁ due due'
 
 -- ---- calls
 
@@ -203,13 +203,20 @@ one_job words j k (limited c f s n w b p) (limited d g r m v b' q) =
     let word : s ≡ r = last_of_four c d f g (codes "--steps") (codes "--steps") s r (sym w ∙ v) in
     let same : n ≡ m = sym b.value ∙ ap (digits_value 10) word ∙ b'.value in
     job_same j k (sym p ∙ ap (limited_job c) same ∙ ap (λ (x : List ℕ). limited_job x m) (first_of_four c d f g (codes "--steps") (codes "--steps") s r (sym w ∙ v)) ∙ q)
+one_job words j k (soak w n v b e) (plain c f v' p) = absurd (soak_is_no_plain k (ap plain_job (first_of_two (codes "soak") c w f (sym v ∙ v')) ∙ p))
+one_job words j k (plain c f v' p) (soak w n v b e) = absurd (soak_is_no_plain j (ap plain_job (first_of_two (codes "soak") c w f (sym v ∙ v')) ∙ p))
+one_job words j k (soak w n v b e) (limited d g s m v' b' q) = absurd (two_four (codes "soak") d w g (codes "--steps") s (sym v ∙ v'))
+one_job words j k (limited d g s m v' b' q) (soak w n v b e) = absurd (two_four (codes "soak") d w g (codes "--steps") s (sym v ∙ v'))
+one_job words j k (soak w n v b e) (soak u m v' b' h) =
+    e ∙ ap Soak (sym b.value ∙ ap (digits_value 10) (last_of_two (codes "soak") (codes "soak") w u (sym v ∙ v')) ∙ b'.value) ∙ sym h
 
 one_job_due : (job : Job) (bytes given : List ℕ) (a b : Answer) → IsJobDue job bytes given a → IsJobDue job bytes given b → a ≡ b
 one_job_due Check bytes given a b p q = one_check bytes a b p q
 one_job_due Build bytes given a b p q = one_build bytes a b p q
-one_job_due (Run budget) bytes given a b p q = one_run bytes given budget a b p q
+one_job_due (Run budget) bytes given a b p q = one_run telling.Value bytes given budget a b p q
 one_job_due (Exec budget) bytes given a b p q = one_exec bytes given budget a b p q
 one_job_due (Reduce budget) bytes given a b p q = one_reduce bytes given budget a b p q
+one_job_due (Soak count) bytes given a b p q = one_run (telling.Soak count) (program_text count) [] usual_budget a b p q
 
 pub one_due : (words : List (List ℕ)) (bytes input : List ℕ) (a b : Answer) → IsDue words bytes input a → IsDue words bytes input b → a ≡ b
 one_due words bytes input a b (no_job n p) (no_job m q) = p ∙ sym q

@@ -22,8 +22,9 @@ use Rattle.machine_table.specs.ValueRules.{value_rules}
 use Rattle.reduction_laws.proofs.runs.Once.{one_value, one_trap, not_both}
 use Rattle.value_text.specs.ValueText.{array_text}
 use Rattle.value_text.proofs.DataTexts.{text_by_data}
+use Rattle.remora_driver.specs.declared.telling.Telling.{Telling}
 use Rattle.remora_driver.specs.Due.{Answer, written, trapped, stuck, outcome_answer, StillRuns, HasCodeEnd, ends, goes_on, HasEnd, reaches, traps, keeps_going}
-use Rattle.remora_driver.specs.Texts.{line}
+use Rattle.remora_driver.specs.Texts.{line, told_text}
 use Rattle.remora_driver.proofs.DataArrays.{same_arrays}
 use Rattle.compiled_laws.proofs.Results.{code_ends_once}
 
@@ -92,21 +93,26 @@ trap_same k l e = cc
 stuck_same : (k l : StuckKind) → ◌≡◌ {A = Outcome Value} (Stuck k) (Stuck l) → k ≡ l
 stuck_same k l e = cc
 
--- an end stands for one answer
-one_outcome : (o p : Outcome Value) → ∥ o ≡ p ∥₁ → outcome_answer o ≡ outcome_answer p
-one_outcome (Done x) (Done y) same =
-    ap (λ (text : List ℕ). written (line text)) (∥∥₁_elim same (Coded-set (coded_list coded_ℕ) (array_text x) (array_text y)) (λ e. ap array_text (done_same x y e)))
-one_outcome (Done x) (Trap k) same = absurd (not_so same (done_or_trap x k))
-one_outcome (Done x) (Stuck k) same = absurd (not_so same (done_or_stuck x k))
-one_outcome (Trap k) (Done x) same = absurd (not_so same (λ e. done_or_trap x k (sym e)))
-one_outcome (Trap k) (Trap l) same = ap trapped (∥∥₁_elim same (Coded-set coded_kind k l) (trap_same k l))
-one_outcome (Trap k) (Stuck l) same = absurd (not_so same (trap_or_stuck k l))
-one_outcome (Stuck k) (Done x) same = absurd (not_so same (λ e. done_or_stuck x k (sym e)))
-one_outcome (Stuck k) (Trap l) same = absurd (not_so same (λ e. trap_or_stuck l k (sym e)))
-one_outcome (Stuck k) (Stuck l) same = ap stuck (∥∥₁_elim same (Coded-set coded_stuck k l) (stuck_same k l))
+-- an end at a step stands for one answer
+module _ (how : Telling) where
+  told_same : (n m : ℕ) (x y : Array) → n ≡ m → x ≡ y → told_text how n (array_text x) ≡ told_text how m (array_text y)
+  told_same n m x y same are = ap (λ (k : ℕ). told_text how k (array_text x)) same ∙ ap (λ (z : Array). told_text how m (array_text z)) are
+
+  one_outcome : (n m : ℕ) (o p : Outcome Value) → ∥ (n ≡ m) × (o ≡ p) ∥₁ → outcome_answer how n o ≡ outcome_answer how m p
+  one_outcome n m (Done x) (Done y) same =
+      ap (λ (text : List ℕ). written (line text))
+      (∥∥₁_elim same (Coded-set (coded_list coded_ℕ) (told_text how n (array_text x)) (told_text how m (array_text y))) (λ e. told_same n m x y e.0 (done_same x y e.1)))
+  one_outcome n m (Done x) (Trap k) same = absurd (not_so same (λ e. done_or_trap x k e.1))
+  one_outcome n m (Done x) (Stuck k) same = absurd (not_so same (λ e. done_or_stuck x k e.1))
+  one_outcome n m (Trap k) (Done x) same = absurd (not_so same (λ e. done_or_trap x k (sym e.1)))
+  one_outcome n m (Trap k) (Trap l) same = ap trapped (∥∥₁_elim same (Coded-set coded_kind k l) (λ e. trap_same k l e.1))
+  one_outcome n m (Trap k) (Stuck l) same = absurd (not_so same (λ e. trap_or_stuck k l e.1))
+  one_outcome n m (Stuck k) (Done x) same = absurd (not_so same (λ e. done_or_stuck x k (sym e.1)))
+  one_outcome n m (Stuck k) (Trap l) same = absurd (not_so same (λ e. trap_or_stuck l k (sym e.1)))
+  one_outcome n m (Stuck k) (Stuck l) same = ap stuck (∥∥₁_elim same (Coded-set coded_stuck k l) (λ e. stuck_same k l e.1))
 
 -- two ends of a code on arrays with the same values, which fit
-module _ (c d : Code) (same : ∥ c ≡ d ∥₁) (budget : ℕ) (types : List Ty) (xs : List Data) (fits : FitsValues types xs) where
+module _ (how : Telling) (c d : Code) (same : ∥ c ≡ d ∥₁) (budget : ℕ) (types : List Ty) (xs : List Data) (fits : FitsValues types xs) where
   inputs_same : (i j : List Array) → each array_data i ≡ xs → each array_data j ≡ xs → i ≡ j
   inputs_same i j e f = same_arrays types i j (subst (FitsValues types) (sym e) fits) (e ∙ sym f)
 
@@ -117,8 +123,8 @@ module _ (c d : Code) (same : ∥ c ≡ d ∥₁) (budget : ℕ) (types : List T
   moved_back : (i j : List Array) (n : ℕ) (o : Outcome Value) → i ≡ j → c ≡ d → Ends value_rules d j n o → Ends value_rules c i n o
   moved_back i j n o are s e = subst (λ (l : List Array). Ends value_rules c l n o) (sym are) (subst (λ (code : Code). Ends value_rules code j n o) (sym s) e)
 
-  ends_once : (i j : List Array) (n m : ℕ) (o p : Outcome Value) → i ≡ j → Ends value_rules c i n o → Ends value_rules d j m p → ∥ o ≡ p ∥₁
-  ends_once i j n m o p are e f = ∥∥₁_map same (λ s. (code_ends_once d j n m o p (moved i j n o are s e) f).1)
+  ends_once : (i j : List Array) (n m : ℕ) (o p : Outcome Value) → i ≡ j → Ends value_rules c i n o → Ends value_rules d j m p → ∥ (n ≡ m) × (o ≡ p) ∥₁
+  ends_once i j n m o p are e f = ∥∥₁_map same (λ s. code_ends_once d j n m o p (moved i j n o are s e) f)
 
   ends_late : (i j : List Array) (n : ℕ) (o : Outcome Value) → i ≡ j → n ≤ budget → Ends value_rules c i n o → StillRuns d j budget → ⊥
   ends_late i j n o are le e going = not_so same (λ s. going n o le (moved i j n o are s e))
@@ -126,8 +132,8 @@ module _ (c d : Code) (same : ∥ c ≡ d ∥₁) (budget : ℕ) (types : List T
   goes_late : (i j : List Array) (n : ℕ) (o : Outcome Value) → i ≡ j → n ≤ budget → Ends value_rules d j n o → StillRuns c i budget → ⊥
   goes_late i j n o are le e going = not_so same (λ s. going n o le (moved_back i j n o are s e))
 
-  pub one_code_end : (a b : Answer) → HasCodeEnd c budget xs a → HasCodeEnd d budget xs b → a ≡ b
-  one_code_end a b (ends i n o seen le end p) (ends j m o' seen' le' end' q) = p ∙ one_outcome o o' (ends_once i j n m o o' (inputs_same i j seen seen') end end') ∙ sym q
+  pub one_code_end : (a b : Answer) → HasCodeEnd how c budget xs a → HasCodeEnd how d budget xs b → a ≡ b
+  one_code_end a b (ends i n o seen le end p) (ends j m o' seen' le' end' q) = p ∙ one_outcome how n m o o' (ends_once i j n m o o' (inputs_same i j seen seen') end end') ∙ sym q
   one_code_end a b (ends i n o seen le end p) (goes_on j seen' going q) = absurd (ends_late i j n o (inputs_same i j seen seen') le end going)
   one_code_end a b (goes_on i seen going p) (ends j n o seen' le end q) = absurd (goes_late i j n o (inputs_same i j seen seen') le end going)
   one_code_end a b (goes_on i seen going p) (goes_on j seen' going' q) = p ∙ sym q

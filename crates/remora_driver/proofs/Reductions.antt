@@ -1,10 +1,9 @@
 -- What is due for a reduction, from what steps of the program's start say.
-use Rattle.std.proofs.Common.{◌≡◌, refl, sym, ap, ◌∙◌, subst, ℕ, List, Bool as Truth, true, false, Result, Ok, Err}
-use Rattle.std.specs.Prelude.{IfOk, IsTrue, ◌↔◌}
+use Rattle.std.proofs.Common.{refl, ap, subst, ℕ, List, Result, Ok, Err}
+use Rattle.std.specs.Prelude.{IfOk}
 use Rattle.std.proofs.Math.Logic.{∥∥₁_map}
 use Rattle.core_syntax.specs.declared.checked.Checked.{Checked}
 use Rattle.core_syntax.specs.declared.errors.StuckKind.{StuckKind}
-use Rattle.core_syntax.specs.declared.program.Program.{Program}
 use Rattle.core_syntax.specs.Data.{Data, FitsValues}
 use Rattle.core_syntax.specs.Lists.{each}
 use Rattle.core_syntax.specs.Literals.{LiteralsFit}
@@ -23,9 +22,8 @@ use Rattle.typed_step.specs.Steps.{IsTerm, Reduced}
 use Rattle.reduction_laws.proofs.runs.Results.{reaches_data}
 use Rattle.remora_driver.specs.declared.reducing.Reduction.{Reduction}
 use Rattle.remora_driver.specs.declared.reducing.Reduction.TheVariants as reduction
-use Rattle.remora_driver.specs.Due.{front, stuck, IsDueOn, unfit, fitting, HasEnd, reaches, traps, keeps_going, IsReductionDue, not_reduced, is_reduced, IsReduceDue, reduce_refused, reduces}
+use Rattle.remora_driver.specs.Due.{stuck, IsDueOn, unfit, fitting, HasEnd, reaches, traps, keeps_going, IsReduceDue, reduce_refused, reduces}
 use Rattle.remora_driver.specs.Programs.{input_types}
-use Rattle.remora_driver.specs.Reducible.{IsReducible}
 use Rattle.remora_driver.specs.Reductions.{notes_of, IsEndOf, IsEndIn, Prints, PrintsValues, EndsFrom, EndsIn, ended}
 use Rattle.remora_driver.proofs.Statuses.{stuck_or_shown, stuck_or_trapped, stuck_or_refused, stuck_or_unfit, stuck_or_running}
 
@@ -83,19 +81,6 @@ ends_from closed budget (Err x) (Ok e) h is = absurd is
 ends_from closed budget (Ok n) (Err y) h is = tt
 ends_from closed budget (Err x) (Err y) h is = tt
 
--- ---- the test
-
-pub not_true : (b : Truth) → b ≡ false → IsTrue b → ⊥
-not_true b e h = let x : false ≡ true = sym e ∙ h in cc
-
--- the test says that the program is reduced today, or that it isn't
-module _ (c : Checked) (P : Program) (b : Truth) (same : P ≡ c.program) (tells : IsTrue b ↔ IsReducible (program_of P)) where
-  pub reducible : b ≡ true → IsReducible (program_of c.program)
-  reducible e = subst (λ (Q : Program). IsReducible (program_of Q)) same (tells.0 e)
-
-  pub not_reducible : b ≡ false → ¬ (IsReducible (program_of c.program))
-  not_reducible e is = not_true b e (tells.1 (subst (λ (Q : Program). IsReducible (program_of Q)) (sym same) is))
-
 -- the notes of a checked program are those of the rules
 pub notes_are : (c : Checked) → ∥ ProgramNotesAre (program_of c.program) (notes_of c) ∥₁
 notes_are c = ∥∥₁_map c.checked (λ x. x.notes_are)
@@ -111,10 +96,6 @@ on_unstuck : (P : syntax.Program) (notes : List NodeNote) (types : List syntax.T
 on_unstuck P notes types given budget kind (unfit number at why is) = stuck_or_unfit kind number at is
 on_unstuck P notes types given budget kind (fitting xs fits end) = end_unstuck P notes budget xs kind end
 
-reduction_unstuck : (P : syntax.Program) (notes : List NodeNote) (given : List ℕ) (budget : ℕ) (kind : StuckKind) → IsReductionDue P notes given budget (stuck kind) → ⊥
-reduction_unstuck P notes given budget kind (not_reduced none is) = stuck_or_refused kind 90 front is
-reduction_unstuck P notes given budget kind (is_reduced is end) = on_unstuck P notes (input_types P) given budget kind end
-
 pub reduce_unstuck : (source given : List ℕ) (budget : ℕ) (kind : StuckKind) → IsReduceDue source given budget (stuck kind) → ⊥
 reduce_unstuck source given budget kind (reduce_refused number at why is) = stuck_or_refused kind number at is
-reduce_unstuck source given budget kind (reduces P notes is are due) = reduction_unstuck P notes given budget kind due
+reduce_unstuck source given budget kind (reduces P notes is are due) = on_unstuck P notes (input_types P) given budget kind due

@@ -15,7 +15,7 @@ use Rattle.remora_driver.specs.Due.{unresolved, ill_typed}
 use Rattle.remora_driver.specs.Jobs.{longest_source}
 use Rattle.remora_driver.specs.Programs.{IsSource, IsAcceptedSource}
 use Rattle.remora_driver.specs.Reductions.{notes_of}
-use Rattle.remora_driver.specs.Sources.{Resolves, ResolvesSource, ChecksProgram, ChecksSource, ChecksReducible, not_accepted, IsCodeOf, Compiles}
+use Rattle.remora_driver.specs.Sources.{Resolves, ResolvesSource, ChecksProgram, ChecksSource, IsCodeOf, Compiles}
 use Rattle.remora_driver.proofs.Ready.{checked_made}
 
 -- a source that reads as forms
@@ -46,8 +46,3 @@ source_compiled bytes c (Err e) is h lost = subst (λ (r : SourceRefusal). Compi
 pub not_compiled : (bytes : List ℕ) (e : SourceRefusal) → ChecksSource bytes (Err e) → Compiles bytes (Err e)
 not_compiled bytes (Refused number at) why = why
 not_compiled bytes Memory why = tt
-
--- nor is it reduced
-pub unchecked : (bytes : List ℕ) (e : SourceRefusal) → ChecksSource bytes (Err e) → ChecksReducible bytes (Err e)
-unchecked bytes (Refused number at) why = not_accepted why
-unchecked bytes Memory why = tt

@@ -5,7 +5,6 @@ use Rattle.std.proofs.lemmas.Bool.Decides.{nat_tests}
 use Rattle.core_syntax.specs.declared.checked.Checked.{Checked}
 use Rattle.core_syntax.specs.declared.program.Program.{Program as Tree}
 use Rattle.core_syntax.specs.declared.span.Span.{Span}
-use Rattle.core_syntax.specs.declared.ty.Ty.{Ty as TyTree}
 use Rattle.core_syntax.specs.Lists.{each}
 use Rattle.core_syntax.specs.NormTypes.{norm_ty}
 use Rattle.core_syntax.specs.Refine.{ty_of}
@@ -24,15 +23,15 @@ use Rattle.remora_driver.specs.declared.errors.SourceRefusal.TheVariants.{Refuse
 use Rattle.remora_driver.specs.declared.job.Job.{Job}
 use Rattle.remora_driver.specs.declared.job.Job.TheVariants as job
 use Rattle.remora_driver.specs.declared.reply.Reply.{Reply}
+use Rattle.remora_driver.specs.declared.telling.Telling.TheVariants as telling
 use Rattle.remora_driver.specs.declared.task.Task.{Task}
 use Rattle.remora_driver.specs.declared.task.Task.TheVariants as task
 use Rattle.remora_driver.specs.Calls.{TellsDue}
-use Rattle.remora_driver.specs.Due.{Answer, refused, front, IsCodeDue, IsRefused, run_refused, runs, not_reduced, is_reduced, reduce_refused, reduces, text_too_long, no_code, executes, IsCheckDue, IsBuildDue, IsJobDue, TakesData}
+use Rattle.remora_driver.specs.Due.{refused, front, IsCodeDue, IsRefused, run_refused, runs, reduce_refused, reduces, text_too_long, no_code, executes, IsCheckDue, IsBuildDue, IsSoakDue, IsJobDue, TakesData}
 use Rattle.remora_driver.specs.Jobs.{longest_code}
 use Rattle.remora_driver.specs.Programs.{IsAcceptedSource}
-use Rattle.remora_driver.specs.Reducible.{IsReducible}
 use Rattle.remora_driver.specs.Reductions.{notes_of}
-use Rattle.remora_driver.specs.Sources.{seen, IsCompiled, Compiles, IsNoCode, too_long, blamed, NotReduced, not_accepted, not_yet, ReadsCode, ChecksReducible}
+use Rattle.remora_driver.specs.Sources.{seen, IsCompiled, Compiles, IsNoCode, too_long, blamed, ReadsCode, ChecksSource}
 use Rattle.remora_driver.specs.Tasks.{IsTaskOf, IsAnswered, TaskFor, Answers, IsBegun, AnsweredBy, Opens}
 use Rattle.remora_driver.proofs.Called.{told_further}
 use Rattle.remora_driver.proofs.OneBlame.{unblamed}
@@ -66,10 +65,10 @@ exec_takes bytes budget code short text = (
   λ takes none. takes.3 (ap (λ (c : Code). c.params) (one_code_read takes.0 code bytes takes.2 text) ∙ none),
 )
 
-reduce_takes : (bytes : List ℕ) (budget : ℕ) (P : Program) → IsAcceptedSource bytes P → IsReducible P → (P.inputs ≢ []) ↔ TakesData (job.Reduce budget) bytes
-reduce_takes bytes budget P is reducible = (
-  λ some. (P, is, reducible, some),
-  λ takes none. takes.3 (ap (λ (Q : Program). Q.inputs) (one_source bytes takes.0 P takes.1.means is.means) ∙ none),
+reduce_takes : (bytes : List ℕ) (budget : ℕ) (P : Program) → IsAcceptedSource bytes P → (P.inputs ≢ []) ↔ TakesData (job.Reduce budget) bytes
+reduce_takes bytes budget P is = (
+  λ some. (P, is, some),
+  λ takes none. takes.2 (ap (λ (Q : Program). Q.inputs) (one_source bytes takes.0 P takes.1.means is.means) ∙ none),
 )
 
 -- ---- the tests of a task
@@ -95,18 +94,18 @@ has_inputs c P b same tells = true_or_not b ((program_of c.program).inputs ≡ [
 pub run_task_of : (bytes : List ℕ) (budget : ℕ) (code : Code) → IsCompiled bytes code → IsTaskOf (job.Run budget) bytes (task.Run code budget)
 run_task_of bytes budget code is =
     record {
-      due = λ given a due. runs is.program is.notes is.runs (subst (λ (c : Code). IsCodeDue c given budget a) is.compiled due);
+      due = λ given a due. runs is.program is.notes is.runs (subst (λ (c : Code). IsCodeDue telling.Value c given budget a) is.compiled due);
       takes = run_takes bytes budget code is;
     }
 
 pub exec_task_of : (bytes : List ℕ) (budget : ℕ) (code : Code) → length bytes ≤ longest_code → CodeText code bytes → IsTaskOf (job.Exec budget) bytes (task.Run code budget)
 exec_task_of bytes budget code short text = record { due = λ given a due. executes code short text due; takes = exec_takes bytes budget code short text }
 
-pub reduce_task_of : (bytes : List ℕ) (budget : ℕ) (c : Checked) → IsAcceptedSource bytes (program_of c.program) → IsReducible (program_of c.program) → IsTaskOf (job.Reduce budget) bytes (task.Reduce c budget)
-reduce_task_of bytes budget c is reducible =
+pub reduce_task_of : (bytes : List ℕ) (budget : ℕ) (c : Checked) → IsAcceptedSource bytes (program_of c.program) → IsTaskOf (job.Reduce budget) bytes (task.Reduce c budget)
+reduce_task_of bytes budget c is =
     record {
-      due = λ given a due. reduces (program_of c.program) (notes_of c) is (notes_are c) (is_reduced reducible due);
-      takes = reduce_takes bytes budget (program_of c.program) is reducible;
+      due = λ given a due. reduces (program_of c.program) (notes_of c) is (notes_are c) due;
+      takes = reduce_takes bytes budget (program_of c.program) is;
     }
 
 -- ---- why there is none
@@ -120,13 +119,8 @@ exec_answered bytes budget number at (too_long long e h) =
 exec_answered bytes budget number at (blamed kind place short why e h) =
     record { due = λ given. no_code kind place short why (refused_same number _ at _ e h); takes_none = λ takes. unblamed bytes kind place takes.0 why takes.2 }
 
-reduce_answered : (bytes : List ℕ) (budget number : ℕ) (at : Span) → NotReduced bytes number at → IsAnswered (job.Reduce budget) bytes (refused number at)
-reduce_answered bytes budget number at (not_accepted why) = record { due = λ given. reduce_refused number at why refl; takes_none = λ takes. refused_or_not bytes number at takes.0 why takes.1 }
-reduce_answered bytes budget number at (not_yet c is none e h) =
-    record {
-      due = λ given. reduces (program_of c.program) (notes_of c) is (notes_are c) (not_reduced none (refused_same number 90 at front e h));
-      takes_none = λ takes. none (subst IsReducible (one_source bytes takes.0 (program_of c.program) takes.1.means is.means) takes.2);
-    }
+reduce_answered : (bytes : List ℕ) (budget number : ℕ) (at : Span) → IsRefused bytes number at → IsAnswered (job.Reduce budget) bytes (refused number at)
+reduce_answered bytes budget number at why = record { due = λ given. reduce_refused number at why refl; takes_none = λ takes. refused_or_not bytes number at takes.0 why takes.1 }
 
 pub run_untasked : (bytes : List ℕ) (budget : ℕ) (e : SourceRefusal) → Compiles bytes (Err e) → TaskFor (job.Run budget) bytes (Err e)
 run_untasked bytes budget (Refused number at) why = run_answered bytes budget number at why
@@ -136,7 +130,7 @@ pub exec_untasked : (bytes : List ℕ) (budget : ℕ) (e : SourceRefusal) → Re
 exec_untasked bytes budget (Refused number at) why = exec_answered bytes budget number at why
 exec_untasked bytes budget Memory why = tt
 
-pub reduce_untasked : (bytes : List ℕ) (budget : ℕ) (e : SourceRefusal) → ChecksReducible bytes (Err e) → TaskFor (job.Reduce budget) bytes (Err e)
+pub reduce_untasked : (bytes : List ℕ) (budget : ℕ) (e : SourceRefusal) → ChecksSource bytes (Err e) → TaskFor (job.Reduce budget) bytes (Err e)
 reduce_untasked bytes budget (Refused number at) why = reduce_answered bytes budget number at why
 reduce_untasked bytes budget Memory why = tt
 
@@ -150,7 +144,7 @@ answers_due j bytes given (Err Memory) g is h = subst (TellsDue (IsJobDue j byte
 
 -- ---- what a job comes to before its data
 
--- a check and a build are answered
+-- a check, a build and the soak program are answered
 pub check_answered : {E : Type 0} (bytes : List ℕ) (r : Result Reply E) → IfOk r (λ a. IsCheckDue bytes (seen a)) → IfOk r (λ a. IsAnswered job.Check bytes (seen a))
 check_answered bytes (Ok a) due = record { due = λ given. due; takes_none = λ takes. takes }
 check_answered bytes (Err e) due = tt
@@ -158,6 +152,10 @@ check_answered bytes (Err e) due = tt
 pub build_answered : {E : Type 0} (bytes : List ℕ) (r : Result Reply E) → IfOk r (λ a. IsBuildDue bytes (seen a)) → IfOk r (λ a. IsAnswered job.Build bytes (seen a))
 build_answered bytes (Ok a) due = record { due = λ given. due; takes_none = λ takes. takes }
 build_answered bytes (Err e) due = tt
+
+pub soak_answered : {E : Type 0} (count : ℕ) (bytes : List ℕ) (r : Result Reply E) → IfOk r (λ a. IsSoakDue count (seen a)) → IfOk r (λ a. IsAnswered (job.Soak count) bytes (seen a))
+soak_answered count bytes (Ok a) due = record { due = λ given. due; takes_none = λ takes. takes }
+soak_answered count bytes (Err e) due = tt
 
 -- a refusal in the place of a task is the answer
 pub refused_opens : {E F : Type 0} (number : ℕ) (at : Span) (r : Result Reply E) (s : Result Begun F) → IfOk r (λ a. seen a ≡ refused number at) → IfOk s (λ b. AnsweredBy r b) → IfOk s (λ b. Opens (Err (Refused number at)) b)

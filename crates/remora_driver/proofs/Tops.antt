@@ -1,12 +1,14 @@
 -- What is due for a job, from what its task says of the data that the input has.
 use Rattle.std.proofs.Common.{◌≡◌, refl, subst, ℕ, ◌+◌, ◌<◌, arith, List, [], length, Option, Some, None, Result, Ok, Err}
-use Rattle.std.specs.Prelude.{IfOk, IfSome}
+use Rattle.std.specs.Prelude.{IfOk, IfSome, IsTrue}
 use Rattle.remora_driver.specs.declared.job.Job.{Job}
+use Rattle.remora_driver.specs.declared.job.Job.TheVariants.{Check, Build, Run, Exec, Reduce, Soak}
 use Rattle.remora_driver.specs.declared.reply.Reply.{Reply}
 use Rattle.remora_driver.specs.declared.status.Status.TheVariants as status
 use Rattle.remora_driver.specs.declared.task.Task.{Task}
 use Rattle.remora_driver.specs.declared.task.Task.TheVariants as task
 use Rattle.remora_driver.specs.Due.{Answer, data_refused, front, unfit, with_data, without, IsJobDue, TakesData}
+use Rattle.remora_driver.specs.Jobs.{reads_source}
 use Rattle.remora_driver.specs.Sources.{seen}
 use Rattle.remora_driver.specs.Tasks.{IsTaskDue, HasInputs, IsTaskOf}
 use Rattle.remora_driver.specs.Top.{IsTold, IsDueOnInput, IsJobDueFor}
@@ -46,6 +48,51 @@ task_due job bytes t input (Err e) is h = tt
 pub bytes_due : {E : Type 0} (job : Job) (bytes : List ℕ) (left input : Option (List ℕ)) (r : Result Reply E) → IsTold left bytes → IfOk r (λ a. IsDueOnInput (TakesData job bytes) (IsJobDue job bytes) input (seen a)) → IfOk r (λ a. IsJobDueFor job left input (seen a))
 bytes_due job bytes left input (Ok a) told h = (bytes, h.0, told, h.1, h.2)
 bytes_due job bytes left input (Err e) told h = tt
+
+-- ---- a job that reads no program source
+
+module _ (job : Job) (none : ¬ (IsTrue (reads_source job))) where
+  -- takes no data
+  pub sourceless_takes : (bytes : List ℕ) → ¬ (TakesData job bytes)
+  sourceless_takes bytes = go job none
+    where
+      go : (j : Job) → ¬ (IsTrue (reads_source j)) → TakesData j bytes → ⊥
+      go Check out takes = takes
+      go Build out takes = takes
+      go (Run budget) out takes = out refl
+      go (Exec budget) out takes = out refl
+      go (Reduce budget) out takes = out refl
+      go (Soak count) out takes = takes
+
+  -- and what is due for it is so whatever the bytes
+  job_due_same : (bytes bytes' given : List ℕ) (a : Answer) → IsJobDue job bytes given a → IsJobDue job bytes' given a
+  job_due_same bytes bytes' given a = go job none
+    where
+      go : (j : Job) → ¬ (IsTrue (reads_source j)) → IsJobDue j bytes given a → IsJobDue j bytes' given a
+      go Check out due = absurd (out refl)
+      go Build out due = absurd (out refl)
+      go (Run budget) out due = absurd (out refl)
+      go (Exec budget) out due = absurd (out refl)
+      go (Reduce budget) out due = absurd (out refl)
+      go (Soak count) out due = due
+
+  pub sourceless_due : {E : Type 0} (bytes : List ℕ) (left input : Option (List ℕ)) (r : Result Reply E) → IfOk r (λ a. IsDueOnInput (TakesData job bytes) (IsJobDue job bytes) input (seen a)) → IfOk r (λ a. IsJobDueFor job left input (seen a))
+  sourceless_due bytes left input (Ok a) h =
+      let some = told_some left in (
+        some.0,
+        h.0,
+        some.1,
+        h.1,
+        due_by_further (TakesData job bytes) (TakesData job some.0) (IsJobDue job bytes) (IsJobDue job some.0) h.0 (seen a) (
+          λ takes. absurd (sourceless_takes bytes takes),
+          λ takes. absurd (sourceless_takes some.0 takes),
+        ) (λ given due. job_due_same bytes some.0 given (seen a) due) h.2,
+      )
+  sourceless_due bytes left input (Err e) h = tt
+
+  -- so it isn't asked for as one that takes some
+  pub sourceless_asks : (left : Option (List ℕ)) → ((bytes : List ℕ) → IsTold left bytes → TakesData job bytes) → ⊥
+  sourceless_asks left takes = let some = told_some left in sourceless_takes some.0 (takes some.0 some.1)
 
 -- ---- what the top call's parts hand on
 

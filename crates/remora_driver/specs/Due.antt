@@ -26,18 +26,20 @@ use Rattle.lowering.specs.Laws.{code_of_program}
 use Rattle.sexp_reader.specs.Forms.{Forms}
 use Rattle.sexp_reader.specs.Reads.{Reads, read_blame}
 use Rattle.name_resolve.specs.Means.{NameBlame}
+use Rattle.soak_gen.specs.SoakText.{program_text}
 use Rattle.remora_driver.specs.declared.job.Job.{Job}
-use Rattle.remora_driver.specs.declared.job.Job.TheVariants.{Check, Build, Run, Exec, Reduce}
+use Rattle.remora_driver.specs.declared.job.Job.TheVariants.{Check, Build, Run, Exec, Reduce, Soak}
 use Rattle.remora_driver.specs.declared.status.Status.{Status}
 use Rattle.remora_driver.specs.declared.status.Status.TheVariants as status
-use Rattle.remora_driver.specs.Jobs.{longest_source, longest_code, IsJob, IsCall}
+use Rattle.remora_driver.specs.declared.telling.Telling.{Telling}
+use Rattle.remora_driver.specs.declared.telling.Telling.TheVariants as telling
+use Rattle.remora_driver.specs.Jobs.{usual_budget, longest_source, longest_code, IsJob, IsCall}
 use Rattle.remora_driver.specs.Places.{bytes_behind}
 use Rattle.remora_driver.specs.Programs.{IsSource, IsAcceptedSource, IsProgram, input_types}
-use Rattle.remora_driver.specs.Reducible.{IsReducible}
 use Rattle.value_text.specs.DataFits.{Fits}
 use Rattle.value_text.specs.DataTexts.{DataBlame}
 use Rattle.value_text.specs.ValueText.{array_text}
-use Rattle.remora_driver.specs.Texts.{line, accepted_text, refusal_text, data_refusal_text, trap_text, stuck_text, still_running_text, usage_text}
+use Rattle.remora_driver.specs.Texts.{line, told_text, accepted_text, refusal_text, data_refusal_text, trap_text, stuck_text, still_running_text, usage_text}
 
 -- a status, and the text that is written with it
 pub record Answer : Type 0 where
@@ -102,24 +104,28 @@ pub data IsDueBy (Taken : Type 0) (Due : List ℕ → Answer → Type 0) (input 
 abbrev pub StillRuns : Code → List Array → ℕ → Type 0
 StillRuns code inputs budget = (n : ℕ) (o : Outcome Value) → n ≤ budget → ¬ (Ends value_rules code inputs n o)
 
--- the answer that shows how a run ends
-abbrev pub outcome_answer : Outcome Value → Answer
-outcome_answer (Done a) = shown a
-outcome_answer (Trap kind) = trapped kind
-outcome_answer (Stuck kind) = stuck kind
+-- a value that a run reaches at its n-th step, told so, and its line
+abbrev pub reached : Telling → ℕ → Array → Answer
+reached how n a = written (line (told_text how n (array_text a)))
 
--- how at most so many steps of a code end, on arrays with these values
-pub data HasCodeEnd (code : Code) (budget : ℕ) (xs : List Data) (a : Answer) : Type 0 where
-  ends : (inputs : List Array) (n : ℕ) (o : Outcome Value) → each array_data inputs ≡ xs → n ≤ budget → Ends value_rules code inputs n o → a ≡ outcome_answer o → HasCodeEnd code budget xs a
-  goes_on : (inputs : List Array) → each array_data inputs ≡ xs → StillRuns code inputs budget → a ≡ still_running → HasCodeEnd code budget xs a
+-- the answer that shows how a run ends at its n-th step
+abbrev pub outcome_answer : Telling → ℕ → Outcome Value → Answer
+outcome_answer how n (Done a) = reached how n a
+outcome_answer how n (Trap kind) = trapped kind
+outcome_answer how n (Stuck kind) = stuck kind
+
+-- how at most so many steps of a code end, on arrays with these values, where a value is told so
+pub data HasCodeEnd (how : Telling) (code : Code) (budget : ℕ) (xs : List Data) (a : Answer) : Type 0 where
+  ends : (inputs : List Array) (n : ℕ) (o : Outcome Value) → each array_data inputs ≡ xs → n ≤ budget → Ends value_rules code inputs n o → a ≡ outcome_answer how n o → HasCodeEnd how code budget xs a
+  goes_on : (inputs : List Array) → each array_data inputs ≡ xs → StillRuns code inputs budget → a ≡ still_running → HasCodeEnd how code budget xs a
 
 -- the types of a code's inputs
 abbrev pub types_of_inputs : Code → List Ty
 types_of_inputs code = each type_of code.params
 
 -- what is due for a code on these data, of which so many steps may be done
-abbrev pub IsCodeDue : Code → List ℕ → ℕ → Answer → Type 0
-IsCodeDue code given budget a = IsDueOn (types_of_inputs code) given (HasCodeEnd code budget) a
+abbrev pub IsCodeDue : Telling → Code → List ℕ → ℕ → Answer → Type 0
+IsCodeDue how code given budget a = IsDueOn (types_of_inputs code) given (HasCodeEnd how code budget) a
 
 -- ---- programs
 
@@ -143,10 +149,14 @@ pub data IsBuildDue (bytes : List ℕ) (a : Answer) : Type 0 where
   build_refused : (number : ℕ) (at : Span) → IsRefused bytes number at → a ≡ refused number at → IsBuildDue bytes a
   builds : (P : Program) (notes : List NodeNote) → IsProgram bytes P notes → a.status ≡ status.Ok → CodeText (code_of_program P notes) a.text → IsBuildDue bytes a
 
--- what is due for a program source that is run on data: its refusal, or how its code ends
-pub data IsRunDue (bytes given : List ℕ) (budget : ℕ) (a : Answer) : Type 0 where
-  run_refused : (number : ℕ) (at : Span) → IsRefused bytes number at → a ≡ refused number at → IsRunDue bytes given budget a
-  runs : (P : Program) (notes : List NodeNote) → IsProgram bytes P notes → IsCodeDue (code_of_program P notes) given budget a → IsRunDue bytes given budget a
+-- what is due for a program source that is run on data: its refusal, or how its code ends, where a value is told so
+pub data IsRunDue (how : Telling) (bytes given : List ℕ) (budget : ℕ) (a : Answer) : Type 0 where
+  run_refused : (number : ℕ) (at : Span) → IsRefused bytes number at → a ≡ refused number at → IsRunDue how bytes given budget a
+  runs : (P : Program) (notes : List NodeNote) → IsProgram bytes P notes → IsCodeDue how (code_of_program P notes) given budget a → IsRunDue how bytes given budget a
+
+-- what is due for the soak program with so many definitions: what is due for its text, run without data and with the usual budget, where a value is told with the steps
+abbrev pub IsSoakDue : ℕ → Answer → Type 0
+IsSoakDue count a = IsRunDue (telling.Soak count) (program_text count) [] usual_budget a
 
 -- ---- reduction
 
@@ -156,10 +166,9 @@ pub data HasEnd (P : Program) (notes : List NodeNote) (budget : ℕ) (xs : List 
   traps : (k : ℕ) (kind : TrapKind) → k ≤ budget → SourceTraps P notes xs k kind → a ≡ trapped kind → HasEnd P notes budget xs a
   keeps_going : SourceGoes P notes xs budget → a ≡ still_running → HasEnd P notes budget xs a
 
--- what is due for an accepted program that is to be reduced on these data: it isn't reduced today, or its steps end so
-pub data IsReductionDue (P : Program) (notes : List NodeNote) (given : List ℕ) (budget : ℕ) (a : Answer) : Type 0 where
-  not_reduced : ¬ (IsReducible P) → a ≡ refused 90 front → IsReductionDue P notes given budget a
-  is_reduced : IsReducible P → IsDueOn (input_types P) given (HasEnd P notes budget) a → IsReductionDue P notes given budget a
+-- what is due for an accepted program that is reduced on these data
+abbrev pub IsReductionDue : Program → List NodeNote → List ℕ → ℕ → Answer → Type 0
+IsReductionDue P notes given budget a = IsDueOn (input_types P) given (HasEnd P notes budget) a
 
 -- what is due for a program source that is reduced on data (its program has one list of notes at most, so they are those of `IsProgram`)
 pub data IsReduceDue (bytes given : List ℕ) (budget : ℕ) (a : Answer) : Type 0 where
@@ -182,7 +191,7 @@ text_place End at bytes = bytes_behind at 0 bytes
 pub data IsExecDue (bytes given : List ℕ) (budget : ℕ) (a : Answer) : Type 0 where
   text_too_long : longest_code < length bytes → a ≡ refused 31 front → IsExecDue bytes given budget a
   no_code : (kind : CodeKind) (at : ℕ) → length bytes ≤ longest_code → Blame kind bytes at → a ≡ refused (text_number kind) (text_place kind at bytes) → IsExecDue bytes given budget a
-  executes : (c : Code) → length bytes ≤ longest_code → CodeText c bytes → IsCodeDue c given budget a → IsExecDue bytes given budget a
+  executes : (c : Code) → length bytes ≤ longest_code → CodeText c bytes → IsCodeDue telling.Value c given budget a → IsExecDue bytes given budget a
 
 -- ---- calls
 
@@ -190,17 +199,19 @@ pub data IsExecDue (bytes given : List ℕ) (budget : ℕ) (a : Answer) : Type 0
 abbrev pub IsJobDue : Job → List ℕ → List ℕ → Answer → Type 0
 IsJobDue Check bytes given a = IsCheckDue bytes a
 IsJobDue Build bytes given a = IsBuildDue bytes a
-IsJobDue (Run budget) bytes given a = IsRunDue bytes given budget a
+IsJobDue (Run budget) bytes given a = IsRunDue telling.Value bytes given budget a
 IsJobDue (Exec budget) bytes given a = IsExecDue bytes given budget a
 IsJobDue (Reduce budget) bytes given a = IsReduceDue bytes given budget a
+IsJobDue (Soak count) bytes given a = IsSoakDue count a
 
--- the job takes data: it runs, executes or reduces, and these bytes are those of a program or a code that has inputs, and is run, executed or reduced today
+-- the job takes data: it runs, executes or reduces, and these bytes are those of an accepted program or of a code that has inputs
 abbrev pub TakesData : Job → List ℕ → Type 0
 TakesData Check bytes = ⊥
 TakesData Build bytes = ⊥
 TakesData (Run budget) bytes = (P : Program) × IsAcceptedSource bytes P × (P.inputs ≢ [])
 TakesData (Exec budget) bytes = (c : Code) × (length bytes ≤ longest_code) × CodeText c bytes × (c.params ≢ [])
-TakesData (Reduce budget) bytes = (P : Program) × IsAcceptedSource bytes P × IsReducible P × (P.inputs ≢ [])
+TakesData (Reduce budget) bytes = (P : Program) × IsAcceptedSource bytes P × (P.inputs ≢ [])
+TakesData (Soak count) bytes = ⊥
 
 -- what is due for these words, the bytes of the program source and those of the input, which are data where the job takes some
 pub data IsDue (words : List (List ℕ)) (bytes input : List ℕ) (a : Answer) : Type 0 where

@@ -6,7 +6,6 @@ pub mod Laws
 pub mod Meant
 pub mod Places
 pub mod Programs
-pub mod Reducible
 pub mod Reductions
 pub mod Sources
 pub mod Tasks

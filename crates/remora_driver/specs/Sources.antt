@@ -18,12 +18,12 @@ use Rattle.machine_table.specs.Codes.{Code}
 use Rattle.code_text.specs.Blame.{Blame, CodeText}
 use Rattle.code_text.specs.declared.refusal.CodeKind.{CodeKind}
 use Rattle.remora_driver.specs.declared.reply.Reply.{Reply}
+use Rattle.remora_driver.specs.declared.telling.Telling.{Telling}
 use Rattle.remora_driver.specs.declared.errors.SourceRefusal.{SourceRefusal}
 use Rattle.remora_driver.specs.declared.errors.SourceRefusal.TheVariants as no_code
-use Rattle.remora_driver.specs.Due.{Answer, front, IsRefused, text_number, text_place, shown, trapped, stuck, still_running}
+use Rattle.remora_driver.specs.Due.{Answer, front, IsRefused, text_number, text_place, reached, trapped, stuck, still_running}
 use Rattle.remora_driver.specs.Jobs.{longest_code}
 use Rattle.remora_driver.specs.Programs.{IsSource, IsAcceptedSource, IsProgram}
-use Rattle.remora_driver.specs.Reducible.{IsReducible}
 
 -- the program that the forms mean, or why they mean none, or there was no memory
 abbrev pub Resolves : Forms → Result Program SourceRefusal → Type 0
@@ -72,30 +72,19 @@ pub data IsNoCode (bytes : List ℕ) (number : ℕ) (at : Span) : Type 0 where
   too_long : longest_code < length bytes → number ≡ 31 → at ≡ front → IsNoCode bytes number at
   blamed : (kind : CodeKind) (place : ℕ) → length bytes ≤ longest_code → Blame kind bytes place → number ≡ text_number kind → at ≡ text_place kind place bytes → IsNoCode bytes number at
 
--- why a source isn't reduced today: it is refused, or its program is accepted and isn't one of those that are
-pub data NotReduced (bytes : List ℕ) (number : ℕ) (at : Span) : Type 0 where
-  not_accepted : IsRefused bytes number at → NotReduced bytes number at
-  not_yet : (c : Checked) → IsAcceptedSource bytes (program_of c.program) → ¬ (IsReducible (program_of c.program)) → number ≡ 90 → at ≡ front → NotReduced bytes number at
-
 -- the code with this text, or why there is none, or there was no memory
 abbrev pub ReadsCode : List ℕ → Result Code SourceRefusal → Type 0
 ReadsCode bytes (Ok code) = (length bytes ≤ longest_code) × CodeText code bytes
 ReadsCode bytes (Err (no_code.Refused number at)) = IsNoCode bytes number at
 ReadsCode bytes (Err no_code.Memory) = ⊤
 
--- the program that the text means, checked, which is reduced today, or why the source isn't reduced, or there was no memory
-abbrev pub ChecksReducible : List ℕ → Result Checked SourceRefusal → Type 0
-ChecksReducible bytes (Ok c) = IsAcceptedSource bytes (program_of c.program) × IsReducible (program_of c.program)
-ChecksReducible bytes (Err (no_code.Refused number at)) = NotReduced bytes number at
-ChecksReducible bytes (Err no_code.Memory) = ⊤
-
 -- the status and the bytes of a reply
 abbrev pub seen : Reply → Answer
 seen a = record { status = a.status; text = a.text.items }
 
--- the answer that shows what a machine answered
-abbrev pub told : Outcome → Answer
-told (outcome.Done a) = shown a
-told (outcome.Trap kind) = trapped kind
-told outcome.Going = still_running
-told (outcome.Stuck kind) = stuck kind
+-- the answer that shows what a machine answered after so many steps, where a value is told so
+abbrev pub told : Telling → ℕ → Outcome → Answer
+told how n (outcome.Done a) = reached how n a
+told how n (outcome.Trap kind) = trapped kind
+told how n outcome.Going = still_running
+told how n (outcome.Stuck kind) = stuck kind

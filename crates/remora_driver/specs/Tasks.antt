@@ -1,11 +1,13 @@
 -- What a job on a source or a code text comes to, before its data.
-use Rattle.std.specs.Prelude.{◌≡◌, ◌≢◌, ◌↔◌, ℕ, List, [], ⊤, Result, Ok, Err}
+use Rattle.std.specs.Prelude.{◌≡◌, ◌≢◌, ◌↔◌, ◌≤◌, ℕ, List, [], ⊤, Result, Ok, Err}
 use Rattle.core_syntax.specs.Wholes.{program_of}
 use Rattle.remora_driver.specs.declared.answer.Answer.{Answer as Given}
 use Rattle.remora_driver.specs.declared.answer.Answer.TheVariants as given
 use Rattle.remora_driver.specs.declared.errors.SourceRefusal.{SourceRefusal}
 use Rattle.remora_driver.specs.declared.errors.SourceRefusal.TheVariants as no_task
 use Rattle.remora_driver.specs.declared.job.Job.{Job}
+use Rattle.remora_driver.specs.declared.job.Job.TheVariants as job
+use Rattle.remora_driver.specs.declared.telling.Telling.TheVariants as telling
 use Rattle.remora_driver.specs.declared.task.Task.{Task}
 use Rattle.remora_driver.specs.declared.task.Task.TheVariants.{Run, Reduce}
 use Rattle.remora_driver.specs.declared.commands.Begun.{Begun}
@@ -17,9 +19,14 @@ use Rattle.remora_driver.specs.Programs.{input_types}
 use Rattle.remora_driver.specs.Reductions.{EndsIn}
 use Rattle.remora_driver.specs.Sources.{seen}
 
+-- a count of definitions is one that words can ask for
+abbrev pub IsAsked : Job → Type 0
+IsAsked (job.Soak count) = (1 ≤ count) × (count ≤ 4096)
+IsAsked _ = ⊤
+
 -- what is due for a task on these data
 abbrev pub IsTaskDue : Task → List ℕ → Answer → Type 0
-IsTaskDue (Run code budget) bytes a = IsCodeDue code bytes budget a
+IsTaskDue (Run code budget) bytes a = IsCodeDue telling.Value code bytes budget a
 IsTaskDue (Reduce checked budget) bytes a = IsDueOn (input_types (program_of checked.program)) bytes (EndsIn checked budget) a
 
 -- the code or the program has inputs

@@ -8,6 +8,8 @@ use Rattle.core_syntax.specs.declared.errors.StuckKind.{StuckKind}
 use Rattle.core_syntax.specs.declared.errors.StuckKind.TheVariants.{Operand, Kind, Rank, Shape}
 use Rattle.core_syntax.specs.NormTypes.{norm_ty, ty_text}
 use Rattle.core_syntax.specs.Syntax.{Ty}
+use Rattle.remora_driver.specs.declared.telling.Telling.{Telling}
+use Rattle.remora_driver.specs.declared.telling.Telling.TheVariants as telling
 
 -- a text that ends its line
 abbrev pub line : List ℕ → List ℕ
@@ -37,6 +39,15 @@ stuck_text Operand = codes "stuck operand"
 stuck_text Kind = codes "stuck kind"
 stuck_text Rank = codes "stuck rank"
 stuck_text Shape = codes "stuck shape"
+
+-- a value of the soak program with so many definitions, of which the code took so many steps
+abbrev pub soak_text : ℕ → ℕ → List ℕ → List ℕ
+soak_text count steps value = codes "soak " ++ (decimal count ++ (codes ": " ++ (decimal steps ++ (codes " steps, " ++ value))))
+
+-- a value that a run reaches at a step, by how it is told: alone, or as one of the soak program
+abbrev pub told_text : Telling → ℕ → List ℕ → List ℕ
+told_text telling.Value steps value = value
+told_text (telling.Soak count) steps value = soak_text count steps value
 
 -- a budget that was used up
 abbrev pub still_running_text : List ℕ

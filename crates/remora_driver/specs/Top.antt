@@ -1,5 +1,5 @@
 -- What the top call says of its sources and its sink.
-use Rattle.std.specs.Prelude.{◌≡◌, ◌⊎◌, ℕ, List, Option, IfSome, ⊤}
+use Rattle.std.specs.Prelude.{◌≡◌, ◌⊎◌, ℕ, List, Option, IfSome, IsTrue, ⊤}
 use Rattle.rem_base.specs.Counts.{Rose}
 use Rattle.remora_driver.specs.declared.top.Halt.{Halt}
 use Rattle.remora_driver.specs.declared.top.Halt.TheVariants as halt
@@ -7,7 +7,7 @@ use Rattle.remora_driver.specs.declared.status.Status.{Status}
 use Rattle.remora_driver.specs.declared.status.Status.TheVariants.{Ok, Trap, Refused, Usage, ReadFault, WriteFault, StillRunning, Memory, DataRefused, Stuck}
 use Rattle.remora_driver.specs.declared.job.Job.{Job}
 use Rattle.remora_driver.specs.Due.{Answer, IsDueBy, IsJobDue, IsDue, TakesData}
-use Rattle.remora_driver.specs.Jobs.{IsJob}
+use Rattle.remora_driver.specs.Jobs.{IsJob, reads_source}
 
 -- these are the bytes that were left, where the source tells them
 abbrev pub IsTold : Option (List ℕ) → List ℕ → Type 0
@@ -23,6 +23,10 @@ IsJobDueFor job program input a = (bytes given : List ℕ) × IsTold program byt
 
 abbrev pub IsDueOnInput : Type 0 → (List ℕ → Answer → Type 0) → (input : Option (List ℕ)) → Answer → Type 0
 IsDueOnInput Taken Due input a = (given : List ℕ) × IsTold input given × IsDueBy Taken Due given a
+
+-- the words ask for a job that reads its program source
+abbrev pub AsksForSource : List (List ℕ) → Type 0
+AsksForSource words = (job : Job) × IsJob words job × IsTrue (reads_source job)
 
 -- the words ask for a job that takes data, where the program source had these bytes left
 abbrev pub AsksForData : List (List ℕ) → Option (List ℕ) → Type 0

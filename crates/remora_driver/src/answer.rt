@@ -1,8 +1,9 @@
 // What calls answer.
 ghost use Rattle.remora_driver.specs.Calls.{Tells};
-ghost use Rattle.remora_driver.specs.Due.{shown};
+ghost use Rattle.remora_driver.specs.Due.{reached, shown};
 
-use crate::texts::array_line;
+use crate::telling::Telling;
+use crate::texts::{array_line, soak_line};
 use array_values::Array;
 use core_syntax::{Memory, Span, StuckKind, TrapKind};
 use std::alloc::Global;
@@ -33,5 +34,25 @@ pub fn array_answer(alloc: Global, array: &Array) -> Answer
     match array_line(alloc, array) {
         Ok(text) => Answer::Text(text),
         Err(Memory) => Answer::Memory,
+    }
+}
+
+/// The answer that shows an array that the code of the soak program comes to by so many steps.
+fn soak_answer(alloc: Global, count: u32, steps: u64, array: &Array) -> Answer
+    ensures { Tells (reached (Telling.Soak count) steps array.now) result }
+{
+    match soak_line(alloc, count, steps, array) {
+        Ok(text) => Answer::Text(text),
+        Err(Memory) => Answer::Memory,
+    }
+}
+
+/// The answer that shows an array that a code comes to by so many steps, told so.
+pub fn value_answer(alloc: Global, how: Telling, steps: u64, array: &Array) -> Answer
+    ensures { Tells (reached how steps array.now) result }
+{
+    match how {
+        Telling::Value => array_answer(alloc, array),
+        Telling::Soak { count } => soak_answer(alloc, count, steps, array),
     }
 }

@@ -8,6 +8,7 @@ use crate::answer::Answer;
 use crate::compiling::compile;
 use crate::errors::SourceRefusal;
 use crate::task::{answer_on, exec_task, reduce_task, run_task};
+use crate::telling::Telling;
 use code_text::print;
 use core_syntax::Memory;
 use machine_table::Code;
@@ -41,7 +42,7 @@ pub fn build(alloc: Global, source: &[u8]) -> Result<Vec<u8>, SourceRefusal>
 /// what `check_source` refuses, and then data that doesn't fit the program's inputs, with 40 to 44 (docs/LANGUAGE.md, "Data"). It
 /// is never `Stuck`. It answers `Memory` where there is none.
 pub fn run_source(alloc: Global, source: &[u8], given: &[u8], budget: u64) -> Answer
-    ensures due { TellsDue (IsRunDue source.now given.now budget) result }
+    ensures due { TellsDue (IsRunDue Telling.Value source.now given.now budget) result }
     ensures unstuck { IsUnstuck result }
 {
     answer_on(alloc, &run_task(alloc, source, budget), given)
@@ -49,8 +50,8 @@ pub fn run_source(alloc: Global, source: &[u8], given: &[u8], budget: u64) -> An
 
 /// What the program that a source means comes to by at most `budget` steps of reduction, on the values that the data `given` is the
 /// text of (docs/LANGUAGE.md, "Reduction"): the line of its value, a trap, or that it is still running. It refuses what
-/// `check_source` refuses, then with 90 a program that isn't reduced today, and then data that doesn't fit the program's inputs,
-/// with 40 to 44. It is never `Stuck`. It answers `Memory` where there is none.
+/// `check_source` refuses, and then data that doesn't fit the program's inputs, with 40 to 44. It is never `Stuck`. It answers
+/// `Memory` where there is none.
 pub fn reduce_source(alloc: Global, source: &[u8], given: &[u8], budget: u64) -> Answer
     ensures due { TellsDue (IsReduceDue source.now given.now budget) result }
     ensures unstuck { IsUnstuck result }

@@ -1,16 +1,17 @@
 // What the words ask for, done on the bytes of a source and on data.
-ghost use Rattle.std.specs.Prelude.{◌≡◌, Some, Err, IfOk};
+ghost use Rattle.std.specs.Prelude.{◌≡◌, ◌≤◌, Some, Err, IfOk};
 ghost use Rattle.core_syntax.specs.Refine.{ty_of};
 ghost use Rattle.remora_driver.specs.Calls.{answer_of};
-ghost use Rattle.remora_driver.specs.Due.{accepted, IsCheckDue, IsBuildDue};
+ghost use Rattle.remora_driver.specs.Due.{accepted, IsCheckDue, IsBuildDue, IsSoakDue};
 ghost use Rattle.remora_driver.specs.Sources.{seen};
-ghost use Rattle.remora_driver.specs.Tasks.{AnsweredBy, IsBegun, IsTaskDue, Opens};
+ghost use Rattle.remora_driver.specs.Tasks.{AnsweredBy, IsAsked, IsBegun, IsTaskDue, Opens};
 
 use crate::answer::Answer;
 use crate::calls::build;
 use crate::errors::SourceRefusal;
 use crate::job::Job;
 use crate::reply::{Reply, data_refusal, refusal, still_running, stuck, trap, type_answer};
+use crate::soaking::soak;
 use crate::source::check_source;
 use crate::status::Status;
 use crate::task::{Task, exec_task, reduce_task, run_task};
@@ -74,6 +75,15 @@ fn replied(alloc: Global, answer: Answer) -> Result<Reply, Memory>
     }
 }
 
+// The reply of the soak program with so many definitions.
+fn soaked(alloc: Global, count: u32) -> Result<Reply, Memory>
+    requires low { 1 ≤ count }
+    requires high { count ≤ 4096 }
+    ensures { IfOk result (λ a. IsSoakDue count (seen a)) }
+{
+    replied(alloc, soak(alloc, count))
+}
+
 // A job that this answers without data.
 fn answered(reply: Result<Reply, Memory>) -> Result<Begun, Memory>
     ensures { IfOk result (λ b. AnsweredBy reply b) }
@@ -106,6 +116,7 @@ fn opened(alloc: Global, task: Result<Task, SourceRefusal>) -> Result<Begun, Mem
 
 /// What a job on these bytes comes to before its data.
 pub fn begin(alloc: Global, job: Job, bytes: &[u8]) -> Result<Begun, Memory>
+    requires { IsAsked job }
     ensures { IfOk result (λ b. IsBegun job bytes.now b) }
 {
     match job {
@@ -114,6 +125,7 @@ pub fn begin(alloc: Global, job: Job, bytes: &[u8]) -> Result<Begun, Memory>
         Job::Run { budget } => opened(alloc, run_task(alloc, bytes, budget)),
         Job::Exec { budget } => opened(alloc, exec_task(alloc, bytes, budget)),
         Job::Reduce { budget } => opened(alloc, reduce_task(alloc, bytes, budget)),
+        Job::Soak { count } => answered(soaked(alloc, count)),
     }
 }
 

@@ -9,9 +9,6 @@ pub const FRONT: Span = Span {
     col: 1,
 };
 
-/// The number of a program that is not reduced yet.
-pub const NOT_BUILT: u8 = 90;
-
 /// The number of a source that is too long.
 pub const TOO_LONG: u8 = 31;
 

@@ -10,13 +10,14 @@ mod errors;
 mod executing;
 mod job;
 mod laws;
-mod reducible;
 mod reducing;
 mod reply;
 mod running;
+mod soaking;
 mod source;
 mod status;
 mod task;
+mod telling;
 mod texts;
 mod top;
 

@@ -67,8 +67,7 @@ fn run(alloc: Global, closed: Closed, budget: u64) -> Result<Reduction, Memory>
     end
 }
 
-/// How at most so many steps of a checked program end that is reduced today, on arrays that fit its inputs (docs/LANGUAGE.md,
-/// "Reduction"). Its literals are read, since data that is reached fits its type where they are those of a text. It answers
+/// How at most so many steps of a checked program end, on arrays that fit its inputs (docs/LANGUAGE.md, "Reduction"). Its literals are read, since data that is reached fits its type where they are those of a text. It answers
 /// `Memory` where there is none.
 pub fn reduce_program(
     alloc: Global,

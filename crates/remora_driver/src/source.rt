@@ -2,11 +2,10 @@
 ghost use Rattle.std.specs.Prelude.{◌≤◌, ◌<◌, ◌^◌, length};
 ghost use Rattle.sexp_reader.specs.Forms.{forms_of, forms_size, AreShort};
 ghost use Rattle.remora_driver.specs.Jobs.{longest_source};
-ghost use Rattle.remora_driver.specs.Sources.{Resolves, ResolvesSource, ChecksProgram, ChecksReducible, ChecksSource};
+ghost use Rattle.remora_driver.specs.Sources.{Resolves, ResolvesSource, ChecksProgram, ChecksSource};
 
-use crate::errors::{FRONT, NOT_BUILT, SourceRefusal, TOO_LONG};
+use crate::errors::{FRONT, SourceRefusal, TOO_LONG};
 use crate::job::LONGEST_SOURCE;
-use crate::reducible::is_reducible;
 use core_syntax::{Checked, Program};
 use name_resolve::{NameRefusal, resolve};
 use sexp_reader::{Sexp, SexpRefusal, read};
@@ -74,21 +73,5 @@ pub fn check_source(alloc: Global, source: &[u8]) -> Result<Checked, SourceRefus
         })
     } else {
         check_short(alloc, source)
-    }
-}
-
-/// The program that a source means, with its types and notes, which is reduced today (docs/LANGUAGE.md, "Programs that are
-/// reduced today"). It refuses what `check_source` refuses, and with 90 an accepted program that isn't reduced. It answers
-/// `Memory` where there is none.
-pub fn check_reducible(alloc: Global, source: &[u8]) -> Result<Checked, SourceRefusal>
-    ensures { ChecksReducible source.now result }
-{
-    match check_source(alloc, source) {
-        Ok(checked) if is_reducible(checked.program()) => Ok(checked),
-        Ok(_) => Err(SourceRefusal::Refused {
-            number: NOT_BUILT,
-            span: FRONT,
-        }),
-        Err(refusal) => Err(refusal),
     }
 }

@@ -19,7 +19,8 @@ use crate::executing::read_code;
 use crate::job::Job;
 use crate::reducing::{Reduction, reduce_program};
 use crate::running::run_code;
-use crate::source::check_reducible;
+use crate::source::check_source;
+use crate::telling::Telling;
 use array_values::Array;
 use core_syntax::{Checked, Memory};
 use machine_table::Code;
@@ -51,7 +52,7 @@ impl Task {
         ensures { TellsDue (IsTaskDue self.now given.now) result }
     {
         match self {
-            Task::Run { code, budget } => run_code(alloc, code, given, *budget),
+            Task::Run { code, budget } => run_code(alloc, Telling::Value, code, given, *budget),
             Task::Reduce { checked, budget } => reduce_checked(alloc, checked, given, *budget),
         }
     }
@@ -114,7 +115,7 @@ pub fn exec_task(alloc: Global, text: &[u8], budget: u64) -> Result<Task, Source
 pub fn reduce_task(alloc: Global, source: &[u8], budget: u64) -> Result<Task, SourceRefusal>
     ensures { TaskFor (Job.Reduce budget) source.now result }
 {
-    match check_reducible(alloc, source) {
+    match check_source(alloc, source) {
         Ok(checked) => Ok(Task::Reduce { checked, budget }),
         Err(refusal) => Err(refusal),
     }

@@ -3,7 +3,7 @@ ghost use Rattle.std.specs.Prelude.{◌≡◌, ◌++◌, IfOk, codes, string_byt
 ghost use Rattle.core_syntax.specs.NormTypes.{ty_text};
 ghost use Rattle.core_syntax.specs.Refine.{ty_of};
 ghost use Rattle.value_text.specs.ValueText.{array_text};
-ghost use Rattle.remora_driver.specs.Texts.{line, accepted_text, refusal_text, data_refusal_text, trap_text, stuck_text, still_running_text, usage_text};
+ghost use Rattle.remora_driver.specs.Texts.{line, accepted_text, refusal_text, data_refusal_text, trap_text, stuck_text, soak_text, still_running_text, usage_text};
 
 use array_values::Array;
 use core_syntax::{Memory, Span, StuckKind, TrapKind, Ty};
@@ -16,6 +16,17 @@ pub fn array_line(alloc: Global, array: &Array) -> Result<Vec<u8>, Memory>
     ensures { IfOk result (λ text. text.items ≡ line (array_text array.now)) }
 {
     let mut out = show(alloc, array)?;
+    out.push(b'\n')?;
+    Ok(out)
+}
+
+/// The line of an array that the code of the soak program comes to by so many steps.
+pub fn soak_line(alloc: Global, count: u32, steps: u64, array: &Array) -> Result<Vec<u8>, Memory>
+    ensures { IfOk result (λ text. text.items ≡ line (soak_text count steps (array_text array.now))) }
+{
+    let shown = show(alloc, array)?;
+    let mut out = format!(in alloc; "soak {count}: {steps} steps, ")?.into_bytes();
+    out.extend_from_slice(shown.as_slice())?;
     out.push(b'\n')?;
     Ok(out)
 }

@@ -1,14 +1,14 @@
 // The top call.
-ghost use Rattle.std.specs.Prelude.{◌≡◌, ◌≢◌, ◌⊎◌, ◌+◌, ◌≤◌, ℕ, List, map, string_bytes, IfOk, IfErr};
+ghost use Rattle.std.specs.Prelude.{◌≡◌, ◌≢◌, ◌⊎◌, ◌+◌, ◌≤◌, ℕ, List, map, string_bytes, IfOk, IfErr, IsTrue};
 ghost use Rattle.std.specs.Io.KnownBytes.{IsAtEnd, Appends};
 ghost use Rattle.rem_base.specs.Counts.{Rose};
 ghost use Rattle.rem_base.specs.Taken.{AppendsFront, TakesAtMost};
 ghost use Rattle.remora_driver.specs.Due.{Answer as Due, IsDue, IsJobDue, TakesData};
-ghost use Rattle.remora_driver.specs.Jobs.{IsCall, IsJob, longest};
+ghost use Rattle.remora_driver.specs.Jobs.{IsJob, longest, reads_source};
 ghost use Rattle.remora_driver.specs.Meant.{IsMeant};
 ghost use Rattle.remora_driver.specs.Sources.{seen};
-ghost use Rattle.remora_driver.specs.Tasks.{HasInputs, IsTaskDue};
-ghost use Rattle.remora_driver.specs.Top.{AsksForData, AsksForNone, Faulted, HaltsFor, IsAnswer, IsDueFor, IsDueOnInput, IsJobDueFor, IsTold};
+ghost use Rattle.remora_driver.specs.Tasks.{HasInputs, IsAsked, IsTaskDue};
+ghost use Rattle.remora_driver.specs.Top.{AsksForData, AsksForNone, AsksForSource, Faulted, HaltsFor, IsAnswer, IsDueFor, IsDueOnInput, IsJobDueFor, IsTold};
 ghost use Rattle.value_text.specs.DataTexts.{longest_data};
 
 use crate::commands::{Begun, begin, finish};
@@ -82,6 +82,7 @@ fn bytes_answer<I: Source>(
     bytes: &[u8],
     input: &mut I,
 ) -> Result<Reply, Halt>
+    requires { IsAsked job }
     ensures due { IfOk result (λ a. IsDueOnInput (TakesData job bytes.now) (IsJobDue job bytes.now) (I.left input.old) (seen a)) }
     ensures fault { IfErr result (λ e. HaltsFor e (Rose (I.faults input.old) (I.faults input.new))) }
     ensures no_fault { result ≢ Err Halt.ReadFault → I.faults input.new ≡ I.faults input.old }
@@ -98,12 +99,14 @@ fn bytes_answer<I: Source>(
 }
 
 // The answer to a job on the bytes that the program source has.
-fn job_answer<P: Source, I: Source>(
+fn source_answer<P: Source, I: Source>(
     alloc: Global,
     job: Job,
     program: &mut P,
     input: &mut I,
 ) -> Result<Reply, Halt>
+    requires asked { IsAsked job }
+    requires reads { IsTrue (reads_source job) }
     ensures due { IfOk result (λ a. IsJobDueFor job (P.left program.old) (I.left input.old) (seen a)) }
     ensures fault { IfErr result (λ e. HaltsFor e (Faulted (P.faults program.old) (P.faults program.new) (I.faults input.old) (I.faults input.new))) }
     ensures no_fault { result ≢ Err Halt.ReadFault → (P.faults program.new ≡ P.faults program.old) × (I.faults input.new ≡ I.faults input.old) }
@@ -121,6 +124,31 @@ fn job_answer<P: Source, I: Source>(
     }
 }
 
+// The answer to a job, on the bytes that the program source has where it reads them.
+fn job_answer<P: Source, I: Source>(
+    alloc: Global,
+    job: Job,
+    program: &mut P,
+    input: &mut I,
+) -> Result<Reply, Halt>
+    requires { IsAsked job }
+    ensures due { IfOk result (λ a. IsJobDueFor job (P.left program.old) (I.left input.old) (seen a)) }
+    ensures fault { IfErr result (λ e. HaltsFor e (Faulted (P.faults program.old) (P.faults program.new) (I.faults input.old) (I.faults input.new))) }
+    ensures no_fault { result ≢ Err Halt.ReadFault → (P.faults program.new ≡ P.faults program.old) × (I.faults input.new ≡ I.faults input.old) }
+    ensures no_less { (P.faults program.old ≤ P.faults program.new) × (I.faults input.old ≤ I.faults input.new) }
+    ensures program_unread { ¬ (IsTrue (reads_source job)) → program.new ≡ program.old }
+    ensures unread { ((bytes : List ℕ) → IsTold (P.left program.old) bytes → ¬ (TakesData job bytes)) → input.new ≡ input.old }
+    ensures taken { TakesAtMost (longest job + 1) (P.left program.old) (P.left program.new) × TakesAtMost (longest_data + 1) (I.left input.old) (I.left input.new) }
+    ensures end { IsTrue (reads_source job) → IfOk result (λ a. a.status ≡ Status.Ok → IsAtEnd (P.left program.new)) }
+    ensures input_end { ((bytes : List ℕ) → IsTold (P.left program.old) bytes → TakesData job bytes) → IfOk result (λ a. a.status ≡ Status.Ok → IsAtEnd (I.left input.new)) }
+{
+    if job.reads_source() {
+        source_answer(alloc, job, program, input)
+    } else {
+        bytes_answer(alloc, job, &[], input)
+    }
+}
+
 // The answer to these words.
 fn answer<P: Source, I: Source>(
     alloc: Global,
@@ -133,11 +161,11 @@ fn answer<P: Source, I: Source>(
     ensures fault { IfErr result (λ e. HaltsFor e (Faulted (P.faults program.old) (P.faults program.new) (I.faults input.old) (I.faults input.new))) }
     ensures no_fault { result ≢ Err Halt.ReadFault → (P.faults program.new ≡ P.faults program.old) × (I.faults input.new ≡ I.faults input.old) }
     ensures no_less { (P.faults program.old ≤ P.faults program.new) × (I.faults input.old ≤ I.faults input.new) }
-    ensures program_unread { ¬ (IsCall (map string_bytes words.now)) → program.new ≡ program.old }
+    ensures program_unread { ¬ (AsksForSource (map string_bytes words.now)) → program.new ≡ program.old }
     ensures input_unread { AsksForNone (map string_bytes words.now) (P.left program.old) → input.new ≡ input.old }
     ensures taken { (job : Job) → IsJob (map string_bytes words.now) job → TakesAtMost (longest job + 1) (P.left program.old) (P.left program.new) }
     ensures input_taken { TakesAtMost (longest_data + 1) (I.left input.old) (I.left input.new) }
-    ensures end { IfOk result (λ a. a.status ≡ Status.Ok → IsAtEnd (P.left program.new)) }
+    ensures end { AsksForSource (map string_bytes words.now) → IfOk result (λ a. a.status ≡ Status.Ok → IsAtEnd (P.left program.new)) }
     ensures input_end { AsksForData (map string_bytes words.now) (P.left program.old) → IfOk result (λ a. a.status ≡ Status.Ok → IsAtEnd (I.left input.new)) }
 {
     match job_of(words) {
@@ -162,8 +190,8 @@ fn write_answer<O: Sink>(out: &mut O, answer: Reply) -> Status
 
 /// Does what the words ask for (docs/LANGUAGE.md, "Calls"), and says how it ended.
 ///
-/// `words` leaves out the program's own name. `program` is read to its end where the words ask for a job, and is left alone
-/// where they don't. Then `input` is read to its end where the program or the code has inputs and isn't refused, and is left alone
+/// `words` leaves out the program's own name. `program` is read to its end where the words ask for a job on a program source,
+/// and is left alone where they don't, or ask for the soak program. Then `input` is read to its end where the program or the code has inputs and isn't refused, and is left alone
 /// where not. Of either, where it is too long, one byte past the limit is taken. The whole text is made before the first write to
 /// `out`. The status is that of the answer, whose text was written whole, or one of `ReadFault` and `Memory`, where nothing was
 /// written, and `WriteFault`, where a front of the text was.
@@ -177,7 +205,7 @@ pub fn remora<P: Source, I: Source, O: Sink>(
     // The status and the bytes that were appended are those that are due.
     ensures due { IsAnswer result → (text : List ℕ) × IsDueFor (map string_bytes words.now) (P.left program.old) (I.left input.old) (record { status = result; text = text }) × Appends (O.written out.old) (O.written out.new) text }
 
-    // What is due of `run` and of `build` is what typed reduction of the program comes to.
+    // What is due of `run`, of `build` and of `soak` is what typed reduction of the program comes to.
     ensures meant { (bytes given : List ℕ) (a : Due) → IsDue (map string_bytes words.now) bytes given a → IsMeant (map string_bytes words.now) bytes given a }
 
     // A fault comes only where the count rose. After a failed write a front of what was due was appended.
@@ -191,11 +219,11 @@ pub fn remora<P: Source, I: Source, O: Sink>(
 
     // What isn't needed is left alone, and what is needed was read to its end.
     ensures no_write { (result ≡ Status.ReadFault) ⊎ (result ≡ Status.Memory) → out.new ≡ out.old }
-    ensures program_unread { ¬ (IsCall (map string_bytes words.now)) → program.new ≡ program.old }
+    ensures program_unread { ¬ (AsksForSource (map string_bytes words.now)) → program.new ≡ program.old }
     ensures input_unread { AsksForNone (map string_bytes words.now) (P.left program.old) → input.new ≡ input.old }
     ensures taken { (job : Job) → IsJob (map string_bytes words.now) job → TakesAtMost (longest job + 1) (P.left program.old) (P.left program.new) }
     ensures input_taken { TakesAtMost (longest_data + 1) (I.left input.old) (I.left input.new) }
-    ensures read_to_end { result ≡ Status.Ok → IsAtEnd (P.left program.new) }
+    ensures read_to_end { result ≡ Status.Ok → AsksForSource (map string_bytes words.now) → IsAtEnd (P.left program.new) }
     ensures input_to_end { result ≡ Status.Ok → AsksForData (map string_bytes words.now) (P.left program.old) → IsAtEnd (I.left input.new) }
 {
     match answer(alloc, words, program, input) {

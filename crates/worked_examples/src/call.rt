@@ -84,11 +84,7 @@ pub fn prints_on(
     Ok(())
 }
 
-/// The line of what isn't built yet.
-const NOT_BUILT: &str = "refused 90 1:1";
-
-/// Calls a command on data that comes to this line in so many steps and no fewer, `*` where that isn't said, `-` where it isn't
-/// built yet.
+/// Calls a command on data that comes to this line in so many steps and no fewer, `*` where that isn't said.
 pub fn ends(
     rt: &impl Abort,
     alloc: Global,
@@ -99,9 +95,6 @@ pub fn ends(
     line: &str,
 ) -> Result<(), Fail> {
     let words = format!(in alloc; "{command} f")?;
-    if steps == "-" {
-        return prints_on(rt, alloc, words.as_str(), source, data, NOT_BUILT);
-    }
     prints_on(rt, alloc, words.as_str(), source, data, line)?;
     let Ok(least) = steps.parse::<u64>() else {
         assert_eq!(rt; steps, "*");

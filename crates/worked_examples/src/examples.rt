@@ -6,8 +6,7 @@ use std::process::Abort;
 use std::test::Fail;
 
 // One program a row: its source, its type, the steps that its code takes and those that its reduction takes (`*` where that
-// isn't said, `-` where it isn't built yet), and the line that both print. Steps are counted by docs/MACHINE.md and
-// docs/LANGUAGE.md, "Reduction".
+// isn't said), and the line that both print. Steps are counted by docs/MACHINE.md and docs/LANGUAGE.md, "Reduction".
 static EXAMPLES: &[&str] = &[
     // Integers, frames and cells.
     "(main () 7) => (A Int (shape)) => 2 => 1 => (array () 7)",
@@ -62,13 +61,21 @@ static EXAMPLES: &[&str] = &[
     "(main () (i-app (ifn ((d Dim)) 1) 4294967296)) => (A Int (shape)) => 2 => 1 => trap size",
     "(main () (array (2) (box (4294967296) 1 (Sigma ((d Dim)) Int)) (box (1) (div 1 0) (Sigma ((d Dim)) Int)))) => (A (Sigma ((i0 Dim)) (A Int (shape))) (shape 2)) => 2 => 1 => trap size",
     // Primitives on arrays of any type, and on functions.
-    "(main () ((i-app (ifn ((m Dim) (n Dim))\n (fn ((a (A Int (shape m))) (b (A Int (shape n))))\n (A Int (shape (+ n m)))\n ((i-app (t-app append Int) m n (shape)) a b))) 2 3)\n (array (2) 1 2) (array (3) 3 4 5))) => (A Int (shape 5)) => 25 => - => (array (5) 1 2 3 4 5)",
-    "(main () ((i-app (t-app take Int) 1 2 (shape 2)) (array (3 2) 1 2 3 4 5 6))) => (A Int (shape 1 2)) => 12 => - => (array (1 2) 1 2)",
-    "(main () ((fn ((v (A Int (shape 3)))) Int ((i-app (t-app reduce Int) 2 (shape)) + v)) (array (2 3) 1 2 3 4 5 6))) => (A Int (shape 2)) => 39 => - => (array (2) 6 15)",
-    "(define f (-> ((A Int (shape 3))) Int) (fn ((a (A Int (shape 3)))) Int ((i-app (t-app reduce Int) 2 (shape)) + a)))\n(main () 1) => (A Int (shape)) => 2 => - => (array () 1)",
-    "(main () ((fn ((f (Forall (t) (Pi ((d Dim) (s Shape)) (-> ((A t (++ (shape d) s))) Int))))) Int 1) length)) => (A Int (shape)) => 8 => - => (array () 1)",
-    "(main () (unbox (d x ((i-app (t-app ravel Int) (shape)) 5))\n Int ((i-app (t-app length Int) d (shape)) x))) => (A Int (shape)) => 27 => - => (array () 1)",
-    "(main () ((i-app iota 2) (array (2) 2 2))) => (A (Sigma ((i0 Shape)) (A Int i0)) (shape)) => 9 => - => (array () (box (shape 2 2) (array (2 2) 0 1 2 3)))",
+    "(main () ((i-app (ifn ((m Dim) (n Dim))\n (fn ((a (A Int (shape m))) (b (A Int (shape n))))\n (A Int (shape (+ n m)))\n ((i-app (t-app append Int) m n (shape)) a b))) 2 3)\n (array (2) 1 2) (array (3) 3 4 5))) => (A Int (shape 5)) => 25 => 5 => (array (5) 1 2 3 4 5)",
+    "(main () ((i-app (t-app take Int) 1 2 (shape 2)) (array (3 2) 1 2 3 4 5 6))) => (A Int (shape 1 2)) => 12 => 3 => (array (1 2) 1 2)",
+    "(main () ((fn ((v (A Int (shape 3)))) Int ((i-app (t-app reduce Int) 2 (shape)) + v)) (array (2 3) 1 2 3 4 5 6))) => (A Int (shape 2)) => 39 => 15 => (array (2) 6 15)",
+    "(main () ((i-app (t-app reduce Int) 2 (shape)) - (array (3) 1 2 3))) => (A Int (shape)) => * => 5 => (array () -4)",
+    "(main () ((i-app (t-app fold Int Int) 3 (shape) (shape)) - 10 (array (3) 1 2 3))) => (A Int (shape)) => * => 6 => (array () 4)",
+    "(main () ((i-app (t-app fold Int Int) 0 (shape) (shape)) - 10 (array (0) Int))) => (A Int (shape)) => * => 3 => (array () 10)",
+    "(main () ((i-app (t-app index-or Int) 2 (shape)) (array (2) 5 6) 1 0)) => (A Int (shape)) => * => 3 => (array () 6)",
+    "(main () ((i-app (t-app reshape Int) 1 (shape 2)) (array (1) 3) (array (2) 1 2) 0)) => (A (Sigma ((i0 Shape)) (A Int i0)) (shape)) => * => 3 => (array () (box (shape 3) (array (3) 1 2 1)))",
+    "(main () ((i-app (t-app filter Int) 2 (shape)) (array (2) #t #f) (array (2) 5 6))) => (A (Sigma ((i0 Dim)) (A Int (shape i0))) (shape)) => * => 3 => (array () (box 1 (array (1) 5)))",
+    "(main () ((i-app (t-app transpose Int) 2 3 (shape)) (array (2 3) 1 2 3 4 5 6))) => (A Int (shape 3 2)) => * => 3 => (array (3 2) 1 4 2 5 3 6)",
+    "(main () ((i-app (t-app replicate Int) 16777217 (shape)) 1)) => (A Int (shape 16777217)) => * => 3 => trap size",
+    "(define f (-> ((A Int (shape 3))) Int) (fn ((a (A Int (shape 3)))) Int ((i-app (t-app reduce Int) 2 (shape)) + a)))\n(main () 1) => (A Int (shape)) => 2 => * => (array () 1)",
+    "(main () ((fn ((f (Forall (t) (Pi ((d Dim) (s Shape)) (-> ((A t (++ (shape d) s))) Int))))) Int 1) length)) => (A Int (shape)) => 8 => 1 => (array () 1)",
+    "(main () (unbox (d x ((i-app (t-app ravel Int) (shape)) 5))\n Int ((i-app (t-app length Int) d (shape)) x))) => (A Int (shape)) => 27 => 7 => (array () 1)",
+    "(main () ((i-app iota 2) (array (2) 2 2))) => (A (Sigma ((i0 Shape)) (A Int i0)) (shape)) => 9 => 2 => (array () (box (shape 2 2) (array (2 2) 0 1 2 3)))",
 ];
 
 // A program prints the same by `run` and by `exec` of what `build` writes, after the same number of steps.

@@ -17,7 +17,7 @@ static ON_DATA: &[&str] = &[
     "(main ((x Int)) ((fn ((y Int)) Int (* x y)) x)) => -3 => (A Int (shape)) => * => * => (array () 9)",
     "(main ((b (Sigma ((d Dim)) (A Int (shape d))))) b) => (box 2 (array (2) 7 8)) => (A (Sigma ((i0 Dim)) (A Int (shape i0))) (shape)) => 2 => 1 => (array () (box 2 (array (2) 7 8)))",
     "(main ((b (A (Sigma ((s Shape)) (A Int s)) (shape 2)))) b) => (array (2) (box (shape) 5) (box (shape 2) (array (2) 6 7))) => (A (Sigma ((i0 Shape)) (A Int i0)) (shape 2)) => 2 => 1 => (array (2) (box (shape) (array () 5)) (box (shape 2) (array (2) 6 7)))",
-    "(main ((b (Sigma ((d Dim)) (A Int (shape d))))) (unbox (d v b) Int ((i-app (t-app length Int) d (shape)) v))) => (box 3 (array (3) 7 8 9)) => (A Int (shape)) => * => - => (array () 3)",
+    "(main ((b (Sigma ((d Dim)) (A Int (shape d))))) (unbox (d v b) Int ((i-app (t-app length Int) d (shape)) v))) => (box 3 (array (3) 7 8 9)) => (A Int (shape)) => * => 4 => (array () 3)",
     "(main ((x Int)) (div 7 x)) => 0 => (A Int (shape)) => 5 => 1 => trap zero",
     "(main ((x (A Int (shape 4294967295 0)))) ((fn ((v (A Int (shape 0)))) Int 1) x)) => (array (4294967295 0)) => (A Int (shape 4294967295)) => 3 => 1 => trap size",
 ];

@@ -12,7 +12,7 @@ static PROGRAMS: &[(&str, &str)] = &[
      (array (2) 10 20)))",
     ),
     (
-        "(A Int (shape 5)) => * => - => (array (5) 1 2 3 4 5)",
+        "(A Int (shape 5)) => * => 6 => (array (5) 1 2 3 4 5)",
         r"(define joined
   (Pi ((m Dim) (n Dim)) (-> ((A Int (shape m)) (A Int (shape n))) (A Int (shape (+ m n)))))
   (ifn ((m Dim) (n Dim))
@@ -21,7 +21,7 @@ static PROGRAMS: &[(&str, &str)] = &[
 (main () ((i-app joined 2 3) (array (2) 1 2) (array (3) 3 4 5)))",
     ),
     (
-        "(A Int (shape 2)) => * => - => (array (2) 2 3)",
+        "(A Int (shape 2)) => * => 10 => (array (2) 2 3)",
         r"(main ()
   (unbox (d v (array (2)
       (box (2) (array (2) 1 2) (Sigma ((d Dim)) (A Int (shape d))))
@@ -30,7 +30,7 @@ static PROGRAMS: &[(&str, &str)] = &[
     ((i-app (t-app length Int) d (shape)) v)))",
     ),
     (
-        "(A Int (shape)) => * => - => (array () 32)",
+        "(A Int (shape)) => * => 13 => (array () 32)",
         r"(define dot (-> ((A Int (shape 3)) (A Int (shape 3))) Int)
   (fn ((a (A Int (shape 3))) (b (A Int (shape 3)))) Int
     ((i-app (t-app reduce Int) 2 (shape)) + (* a b))))
@@ -43,14 +43,14 @@ static PROGRAMS: &[(&str, &str)] = &[
 (main () ((t-app identity Int) (array (3) 1 2 3)))",
     ),
     (
-        "(A Int (shape)) => * => - => (array () 6)",
+        "(A Int (shape)) => * => 7 => (array () 6)",
         r"(main ()
   (unbox (d v ((i-app (t-app ravel Int) (shape 2 3)) (array (2 3) 1 2 3 4 5 6)))
     Int
     ((i-app (t-app length Int) d (shape)) v)))",
     ),
     (
-        "(A Int (shape 5)) => * => - => (array (5) 1 4 2 2 1)",
+        "(A Int (shape 5)) => * => * => (array (5) 1 4 2 2 1)",
         r"(define count (Pi ((n Dim)) (-> (Int (A Int (shape n))) Int))
   (ifn ((n Dim))
     (fn ((wanted Int) (xs (A Int (shape n)))) Int
@@ -58,7 +58,7 @@ static PROGRAMS: &[(&str, &str)] = &[
 (main () ((i-app count 10) (array (5) 0 1 2 3 4) (array (10) 3 1 4 1 0 2 2 1 3 1)))",
     ),
     (
-        "(A Int (shape 5 5)) => * => - => (array (5 5) 0 0 0 0 0 0 0 1 0 0 0 0 0 1 0 0 1 1 1 0 0 0 0 0 0)",
+        "(A Int (shape 5 5)) => * => * => (array (5 5) 0 0 0 0 0 0 0 1 0 0 0 0 0 1 0 0 1 1 1 0 0 0 0 0 0)",
         r"(define forward
   (Pi ((d Dim) (s Shape)) (-> ((A Int (++ (shape (+ d 1)) s))) (A Int (++ (shape (+ d 1)) s))))
   (ifn ((d Dim) (s Shape))
@@ -97,7 +97,7 @@ static PROGRAMS: &[(&str, &str)] = &[
    (array (4) 1 2 3 4)))",
     ),
     (
-        "(A Int (shape 2 2)) => * => - => (array (2 2) 58 64 139 154)",
+        "(A Int (shape 2 2)) => * => * => (array (2 2) 58 64 139 154)",
         r"(define dot (Pi ((k Dim)) (-> ((A Int (shape k)) (A Int (shape k))) Int))
   (ifn ((k Dim))
     (fn ((a (A Int (shape k))) (b (A Int (shape k)))) Int
@@ -116,7 +116,7 @@ static PROGRAMS: &[(&str, &str)] = &[
    (array (3 2) 7 8 9 10 11 12)))",
     ),
     (
-        "(A Int (shape 6)) => * => - => (array (6) 6 7 6 3 2 3)",
+        "(A Int (shape 6)) => * => * => (array (6) 6 7 6 3 2 3)",
         r"(define moving-average (Pi ((n Dim)) (-> ((A Int (shape (+ n 2)))) (A Int (shape n))))
   (ifn ((n Dim))
     (fn ((xs (A Int (shape (+ n 2))))) (A Int (shape n))
@@ -138,7 +138,7 @@ static PROGRAMS: &[(&str, &str)] = &[
    "remora"))"#,
     ),
     (
-        "(A (Sigma ((i0 Dim)) (A Int (shape i0))) (shape)) => * => - => (array () (box 10 (array (10) 2 3 5 7 11 13 17 19 23 29)))",
+        "(A (Sigma ((i0 Dim)) (A Int (shape i0))) (shape)) => * => * => (array () (box 10 (array (10) 2 3 5 7 11 13 17 19 23 29)))",
         r"(define divisors (Pi ((n Dim)) (-> (Int (A Int (shape n))) Int))
   (ifn ((n Dim))
     (fn ((x Int) (numbers (A Int (shape n)))) Int
@@ -156,7 +156,7 @@ static PROGRAMS: &[(&str, &str)] = &[
     ((i-app (t-app positions Bool) 29 (shape)) ((i-app (t-app replicate Bool) 29 (shape)) #t)))))",
     ),
     (
-        "(A Int (shape 3)) => * => - => (array (3) 3 24 0)",
+        "(A Int (shape 3)) => * => * => (array (3) 3 24 0)",
         r"(define row-sum (Pi ((d Dim)) (-> ((A Int (shape d))) Int))
   (ifn ((d Dim))
     (fn ((row (A Int (shape d)))) Int ((i-app (t-app fold Int Int) d (shape) (shape)) + 0 row))))
@@ -169,14 +169,14 @@ static PROGRAMS: &[(&str, &str)] = &[
     ((i-app row-sum d) row)))",
     ),
     (
-        r"(A Char (shape 3 5)) => * => - => (array (3 5) #\s #\p #\o #\t #\s #\s #\p #\o #\o #\l #\d #\e #\v #\i #\l)",
+        r"(A Char (shape 3 5)) => * => * => (array (3 5) #\s #\p #\o #\t #\s #\s #\p #\o #\o #\l #\d #\e #\v #\i #\l)",
         r#"(define each-row (Pi ((n Dim)) (-> ((A Char (shape n))) (A Char (shape n))))
   (ifn ((n Dim))
     (fn ((text (A Char (shape n)))) (A Char (shape n)) ((i-app (t-app reverse Char) n (shape)) text))))
 (main () ((i-app each-row 5) (frame (3) "stops" "loops" "lived")))"#,
     ),
     (
-        "(A Int (shape)) => * => - => (array () 7)",
+        "(A Int (shape)) => * => * => (array () 7)",
         r#"(define is-blank (-> (Char) Bool) (fn ((c Char)) Bool (char= c #\u20)))
 (define words (Pi ((n Dim)) (-> ((A Char (shape (+ n 1)))) Int))
   (ifn ((n Dim))
@@ -194,7 +194,7 @@ static PROGRAMS: &[(&str, &str)] = &[
 // The same of those with inputs: their answers, their data and their texts.
 static ON_DATA: &[(&str, &str, &str)] = &[
     (
-        "(A Int (shape 2)) => * => - => (array (2) 7 16)",
+        "(A Int (shape 2)) => * => * => (array (2) 7 16)",
         r"(array (2 3) 1 2 3
              4 5 6)
 (array (3) 1 0 2)",
@@ -204,7 +204,7 @@ static ON_DATA: &[(&str, &str, &str)] = &[
 (main ((m (A Int (shape 2 3))) (v (A Int (shape 3)))) (dot m v))",
     ),
     (
-        "(A Int (shape)) => * => - => (array () 15)",
+        "(A Int (shape)) => * => * => (array () 15)",
         r"(box 8 (array (8) 3 14 15 9 26 5 35 16))",
         r"(define mean (Pi ((n Dim)) (-> ((A Int (shape n))) Int))
   (ifn ((n Dim))
@@ -215,7 +215,7 @@ static ON_DATA: &[(&str, &str, &str)] = &[
   (unbox (n xs numbers) Int ((i-app mean n) xs)))",
     ),
     (
-        "(A Int (shape)) => * => - => (array () 10)",
+        "(A Int (shape)) => * => * => (array () 10)",
         r#"(box 42 "to be, or not to be:  that is the question")"#,
         r"(define is-blank (-> (Char) Bool) (fn ((c Char)) Bool (char= c #\u20)))
 (define words (Pi ((n Dim)) (-> ((A Char (shape n))) Int))

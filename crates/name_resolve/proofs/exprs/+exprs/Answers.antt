@@ -17,7 +17,7 @@ use Rattle.name_resolve.proofs.BinderLemmas.{length_names}
 use Rattle.name_resolve.proofs.ExprLemmas.{expr_short, atom_short, expr_worded, atom_worded, exprs-none, atoms-none}
 use Rattle.name_resolve.proofs.LiteralLemmas.{applied_refused, applied_to, dims_refused, literal_is, atoms_refused, atoms_read, cells_refused, cells_read}
 use Rattle.name_resolve.proofs.Loops.{loop_step, loop_end}
-use Rattle.name_resolve.proofs.Refusals.{is_refused, same_answer, carried}
+use Rattle.name_resolve.proofs.Refusals.{is_refused, same_answer}
 use Rattle.name_resolve.proofs.RoomLemmas.{room_less, room_under, item_size}
 use Rattle.name_resolve.proofs.UnboxLemmas.{atom_refused, atom_read, body_refused, unbox_read}
 use Rattle.name_resolve.proofs.exprs.+exprs.Goals as goal
@@ -219,28 +219,27 @@ list_atom-returns-clause-read t c =
     (expr_of c.in_ok-body.body) (subst (λ Γ. expr Γ (form_of c.in_ok-space.field-0.body.now) ≡ Ok (expr_of c.in_ok-body.body)) entered c.in_ok-body.ensures.read))
     (subst (λ Γ. Answers atom_of c.finish.result (done_of Γ c.args.at c.in_ok-space.field-0.form (expr_of c.in_ok-body.body))) left c.finish.ensures.read)
 
-pub unbox-returns-in_err-body-clause-read : goal.unbox-returns-in_err-body-clause-read
-unbox-returns-in_err-body-clause-read t c =
-    let kept = c.in_ok-answer.ensures.same ∙ c.in_ok-boxed.ensures.same in
+pub unbox-returns-in-Ok-clause-read : goal.unbox-returns-in-Ok-clause-read
+unbox-returns-in-Ok-clause-read t c =
+    let kept = c.in-Ok.ensures.same ∙ c.in_ok-boxed.ensures.same in
     let h = body_refused c.args.scopes.now c.args.at (form_of c.args.first.now) (forms_of c.args.rest.now) (unboxing_of c.in_ok-unboxing.unboxing) c.in_ok-unboxing.ensures.read
-    (expr c.args.scopes.now (form_of c.in_ok-unboxing.unboxing.boxed.now)) (c.in_ok-unboxing.ensures.last c.args.scopes.now) (expr_of c.in_ok-boxed.boxed) c.in_ok-boxed.ensures.read (ty_of c.in_ok-answer.answer)
-    (subst (λ Γ. array_ty Γ (form_of c.in_ok-unboxing.unboxing.answer.now) ≡ Ok (ty_of c.in_ok-answer.answer)) c.in_ok-boxed.ensures.same c.in_ok-answer.ensures.read)
-    c.in_err-body.field-0.0
-    (subst (λ Γ. Refuses c.in_err-body.field-0.0 (expr (inside (unboxing_of c.in_ok-unboxing.unboxing) Γ) (form_of c.in_ok-unboxing.unboxing.body.now))) kept c.in_err-body.ensures.read) in
-    carried expr_of c.from_residual-in_err-body.result c.in_err-body.field-0.0
-    (unbox c.args.scopes.now c.args.at (form_of c.args.first.now) (forms_of c.args.rest.now) (last_in c.args.scopes.now (form_of c.args.first.now)) (λ Δ. nth_expr 1 Δ (forms_of c.args.rest.now)))
-    c.from_residual-in_err-body.ensures.1 h
+    (expr c.args.scopes.now (form_of c.in_ok-unboxing.unboxing.boxed.now)) (c.in_ok-unboxing.ensures.last c.args.scopes.now) (expr_of c.in_ok-boxed.boxed) c.in_ok-boxed.ensures.read (ty_of c.in-Ok.answer)
+    (subst (λ Γ. array_ty Γ (form_of c.in_ok-unboxing.unboxing.answer.now) ≡ Ok (ty_of c.in-Ok.answer)) c.in_ok-boxed.ensures.same c.in-Ok.ensures.read)
+    c.in-Err-unboxed_body.refusal
+    (subst (λ Γ. Refuses c.in-Err-unboxed_body.refusal (expr (inside (unboxing_of c.in_ok-unboxing.unboxing) Γ) (form_of c.in_ok-unboxing.unboxing.body.now))) kept c.in-Err-unboxed_body.ensures.read) in
+    subst (λ e. Refuses e (unbox c.args.scopes.now c.args.at (form_of c.args.first.now) (forms_of c.args.rest.now) (last_in c.args.scopes.now (form_of c.args.first.now)) (λ Δ. nth_expr 1 Δ (forms_of c.args.rest.now))))
+    (sym (c.given_up-in-Err-unboxed_body.ensures ∙ c.given_up.ensures)) h
 
-pub unbox-returns-clause-read : goal.unbox-returns-clause-read
-unbox-returns-clause-read t c =
-    let kept = c.in_ok-answer.ensures.same ∙ c.in_ok-boxed.ensures.same in
+pub unbox-returns-in-Ok-unboxed_body-clause-read : goal.unbox-returns-in-Ok-unboxed_body-clause-read
+unbox-returns-in-Ok-unboxed_body-clause-read t c =
+    let kept = c.in-Ok.ensures.same ∙ c.in_ok-boxed.ensures.same in
     let n : c.len.result ≡ length c.in_ok-unboxing.unboxing.bound.items = search rules in
     same_answer expr_of c.finish_box.result _ _
     (unbox_read c.args.scopes.now c.args.at (form_of c.args.first.now) (forms_of c.args.rest.now) (unboxing_of c.in_ok-unboxing.unboxing) c.in_ok-unboxing.ensures.read
-    (expr c.args.scopes.now (form_of c.in_ok-unboxing.unboxing.boxed.now)) (c.in_ok-unboxing.ensures.last c.args.scopes.now) (expr_of c.in_ok-boxed.boxed) c.in_ok-boxed.ensures.read (ty_of c.in_ok-answer.answer)
-    (subst (λ Γ. array_ty Γ (form_of c.in_ok-unboxing.unboxing.answer.now) ≡ Ok (ty_of c.in_ok-answer.answer)) c.in_ok-boxed.ensures.same c.in_ok-answer.ensures.read)
-    (expr_of c.in_ok-body.body) c.len.result
-    (subst (λ Γ. expr (inside (unboxing_of c.in_ok-unboxing.unboxing) Γ) (form_of c.in_ok-unboxing.unboxing.body.now) ≡ Ok (expr_of c.in_ok-body.body)) kept c.in_ok-body.ensures.read)
+    (expr c.args.scopes.now (form_of c.in_ok-unboxing.unboxing.boxed.now)) (c.in_ok-unboxing.ensures.last c.args.scopes.now) (expr_of c.in_ok-boxed.boxed) c.in_ok-boxed.ensures.read (ty_of c.in-Ok.answer)
+    (subst (λ Γ. array_ty Γ (form_of c.in_ok-unboxing.unboxing.answer.now) ≡ Ok (ty_of c.in-Ok.answer)) c.in_ok-boxed.ensures.same c.in-Ok.ensures.read)
+    (expr_of c.in-Ok-unboxed_body.body) c.len.result
+    (subst (λ Γ. expr (inside (unboxing_of c.in_ok-unboxing.unboxing) Γ) (form_of c.in_ok-unboxing.unboxing.body.now) ≡ Ok (expr_of c.in-Ok-unboxed_body.body)) kept c.in-Ok-unboxed_body.ensures.read)
     (length_names c.in_ok-unboxing.unboxing.bound.items ∙ sym n))
     c.finish_box.ensures
 

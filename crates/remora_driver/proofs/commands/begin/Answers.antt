@@ -1,9 +1,9 @@
 use Rattle.std.proofs.Common.{sym, subst}
 use Rattle.std.specs.Prelude.{IfOk}
 use Rattle.remora_driver.specs.declared.job.Job.{Job}
-use Rattle.remora_driver.specs.declared.job.Job.TheVariants.{Check, Build, Run, Exec, Reduce}
-use Rattle.remora_driver.specs.Tasks.{IsBegun}
-use Rattle.remora_driver.proofs.Tasks.{check_answered, build_answered, begun_answered, begun_opened}
+use Rattle.remora_driver.specs.declared.job.Job.TheVariants.{Check, Build, Run, Exec, Reduce, Soak}
+use Rattle.remora_driver.specs.Tasks.{IsAsked, IsBegun}
+use Rattle.remora_driver.proofs.Tasks.{check_answered, build_answered, soak_answered, begun_answered, begun_opened}
 use Rattle.remora_driver.proofs.commands.begin.Goals as goal
 
 pub returns-in-Check : goal.returns-in-Check
@@ -30,3 +30,11 @@ pub returns-in-Reduce : goal.returns-in-Reduce
 returns-in-Reduce c =
     subst (λ (job : Job). IfOk c.opened-in-Reduce.result (λ b. IsBegun job c.args.bytes.now b)) (sym c.in-Reduce.is)
     (begun_opened (Reduce c.in-Reduce.budget) c.args.bytes.now c.reduce_task.result c.opened-in-Reduce.result c.reduce_task.ensures c.opened-in-Reduce.ensures)
+
+pub soaked-requires : goal.soaked-requires
+soaked-requires c = let asked = subst IsAsked c.in-Soak.is c.requires in record { low = asked.0; high = asked.1 }
+
+pub returns-in-Soak : goal.returns-in-Soak
+returns-in-Soak c =
+    subst (λ (job : Job). IfOk c.answered-in-Soak.result (λ b. IsBegun job c.args.bytes.now b)) (sym c.in-Soak.is)
+    (begun_answered (Soak c.in-Soak.count) c.args.bytes.now c.soaked.result c.answered-in-Soak.result (soak_answered c.in-Soak.count c.args.bytes.now c.soaked.result c.soaked.ensures) c.answered-in-Soak.ensures)

@@ -9,7 +9,9 @@ returns-in_err-budget-in-len4 c =
     c.from_residual.result c.in_err-budget-in-len4.ensures c.from_residual.ensures
 
 pub returns-in-len2 : goal.returns-in-len2
-returns-in-len2 c = two_words c.args.words.now c.command-item.result c.command-item.result c.as_str.result.now c.plain_job.result c.in-len2.len_at_least c.in-len2.len_below c.command-item.is c.as_str.ensures.value c.plain_job.ensures
+returns-in-len2 c =
+    two_words c.args.words.now c.command-item.result c.word-item.result c.command-item.result c.word-item.result c.as_str.result.now c.as_str-in-len2.result.now c.job_of_two.result c.in-len2.len_at_least c.in-len2.len_below
+    c.command-item.is c.word-item.is c.as_str.ensures.value c.as_str-in-len2.ensures.value c.job_of_two.ensures
 
 pub returns-in_ok-budget-in-len4 : goal.returns-in_ok-budget-in-len4
 returns-in_ok-budget-in-len4 c =

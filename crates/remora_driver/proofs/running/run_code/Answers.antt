@@ -21,8 +21,8 @@ code_answer-requires c =
 pub returns-in-Ok : goal.returns-in-Ok
 returns-in-Ok c =
     let fits = subst (λ (ps : List Param). Fits c.args.given.now (each type_of ps) (each array_data c.in-Ok.inputs.items)) c.params.ensures.params c.in-Ok.ensures.found in
-    told_further (HasCodeEnd c.args.code.now c.args.budget (each array_data c.in-Ok.inputs.items)) (IsCodeDue c.args.code.now c.args.given.now c.args.budget) c.code_answer.result
-    (λ a end. fitting (each array_data c.in-Ok.inputs.items) fits end) (subst (λ (xs : List Array). TellsDue (HasCodeEnd c.args.code.now c.args.budget (each array_data xs)) c.code_answer.result) c.as_slice.ensures.value c.code_answer.ensures)
+    told_further (HasCodeEnd c.args.how c.args.code.now c.args.budget (each array_data c.in-Ok.inputs.items)) (IsCodeDue c.args.how c.args.code.now c.args.given.now c.args.budget) c.code_answer.result
+    (λ a end. fitting (each array_data c.in-Ok.inputs.items) fits end) (subst (λ (xs : List Array). TellsDue (HasCodeEnd c.args.how c.args.code.now c.args.budget (each array_data xs)) c.code_answer.result) c.as_slice.ensures.value c.code_answer.ensures)
 
 pub returns-in-Err-Refused : goal.returns-in-Err-Refused
 returns-in-Err-Refused c = rw c.in-Err-Refused.field-0-is (

@@ -1,8 +1,10 @@
 use Rattle.std.proofs.Common.{map, string_bytes, subst, ◌+◌}
 use Rattle.rem_base.specs.Taken.{TakesAtMost}
 use Rattle.remora_driver.specs.declared.job.Job.{Job}
-use Rattle.remora_driver.specs.Jobs.{longest}
+use Rattle.remora_driver.specs.Jobs.{longest, reads_source}
 use Rattle.remora_driver.specs.Sources.{seen}
+use Rattle.std.specs.Prelude.{IsTrue}
+use Rattle.remora_driver.proofs.JobWords.{asked_so}
 use Rattle.remora_driver.proofs.OneDue.{one_job}
 use Rattle.remora_driver.proofs.Dues.{job_is_due, usage_is_due}
 use Rattle.remora_driver.proofs.top.answer.Goals as goal
@@ -12,7 +14,14 @@ returns-in-Some-clause-due g c =
     job_is_due (map string_bytes c.args.words.now) (g.P.Source.left c.args.program.now) (g.I.Source.left c.args.input.now) c.in-Some.job c.job_answer.result c.in-Some.ensures c.job_answer.ensures.due
 
 pub returns-in-Some-clause-program_unread : goal.returns-in-Some-clause-program_unread
-returns-in-Some-clause-program_unread g c = λ none. absurd (none (c.in-Some.job, c.in-Some.ensures))
+returns-in-Some-clause-program_unread g c = λ none. c.job_answer.ensures.program_unread (λ reads. none (c.in-Some.job, c.in-Some.ensures, reads))
+
+pub returns-in-Some-clause-end : goal.returns-in-Some-clause-end
+returns-in-Some-clause-end g c = λ asks.
+    c.job_answer.ensures.end (subst (λ (j : Job). IsTrue (reads_source j)) (one_job (map string_bytes c.args.words.now) asks.0 c.in-Some.job asks.1 c.in-Some.ensures) asks.2)
+
+pub job_answer-requires : goal.job_answer-requires
+job_answer-requires g c = asked_so (map string_bytes c.args.words.now) c.in-Some.job c.in-Some.ensures
 
 pub returns-in-Some-clause-input_unread : goal.returns-in-Some-clause-input_unread
 returns-in-Some-clause-input_unread g c = λ none. c.job_answer.ensures.unread (λ bytes told. none c.in-Some.job bytes c.in-Some.ensures told)

@@ -1,4 +1,4 @@
-use Rattle.std.proofs.Common.{rules, sym, subst, length, ◌<◌, ℕ}
+use Rattle.std.proofs.Common.{rules, sym, subst, length, ◌<◌}
 use Rattle.std.specs.Prelude.{IfSome}
 use Rattle.remora_driver.specs.Sources.{seen}
 use Rattle.remora_driver.specs.Top.{IsTold}

@@ -14,6 +14,10 @@ returns-in-Err-ReadFault-clause-meant g c = due_means (map string_bytes c.args.w
 pub returns-in-Err-Memory-clause-meant : goal.returns-in-Err-Memory-clause-meant
 returns-in-Err-Memory-clause-meant g c = due_means (map string_bytes c.args.words.now)
 
+pub returns-in-Ok-clause-read_to_end : goal.returns-in-Ok-clause-read_to_end
+returns-in-Ok-clause-read_to_end g c = λ ok asks.
+    ended_so (IsAtEnd (g.P.Source.left c.answer.new.program)) c.answer.result c.in-Ok.answer c.in-Ok.is (c.answer.ensures.end asks) (sym (c.write_answer.ensures.written (subst IsAnswer (sym ok) tt)).0 ∙ ok)
+
 pub returns-in-Ok-clause-input_to_end : goal.returns-in-Ok-clause-input_to_end
 returns-in-Ok-clause-input_to_end g c = λ ok asks.
     ended_so (IsAtEnd (g.I.Source.left c.answer.new.input)) c.answer.result c.in-Ok.answer c.in-Ok.is (c.answer.ensures.input_end asks) (sym (c.write_answer.ensures.written (subst IsAnswer (sym ok) tt)).0 ∙ ok)

@@ -1,7 +1,7 @@
 use Rattle.std.proofs.Common.{◌≡◌, false}
 use Rattle.remora_driver.specs.Sources.{seen}
 use Rattle.remora_driver.specs.Tasks.{HasInputs, IsTaskDue}
-use Rattle.remora_driver.proofs.Reductions.{not_true}
+use Rattle.remora_driver.proofs.Answers.{not_true}
 use Rattle.remora_driver.proofs.Tops.{taken_due, untaken_due}
 use Rattle.remora_driver.proofs.top.task_answer.Goals as goal
 
