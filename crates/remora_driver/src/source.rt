@@ -10,7 +10,7 @@ use core_syntax::{Checked, Program};
 use name_resolve::{NameRefusal, resolve};
 use sexp_reader::{Sexp, SexpRefusal, read};
 use std::alloc::Global;
-use type_check::{TypeRefusal, check};
+use type_check::{TypeRefusal, check_owned};
 
 // The program that forms mean.
 fn resolved(alloc: Global, forms: &[Sexp]) -> Result<Program, SourceRefusal>
@@ -42,7 +42,7 @@ fn source_program(alloc: Global, source: &[u8]) -> Result<Program, SourceRefusal
 fn checked(alloc: Global, program: Program) -> Result<Checked, SourceRefusal>
     ensures { ChecksProgram program result }
 {
-    match check(alloc, program) {
+    match check_owned(alloc, program) {
         Ok(checked) => Ok(checked),
         Err(TypeRefusal::Refused { number, span }) => Err(SourceRefusal::Refused { number, span }),
         Err(TypeRefusal::Memory) => Err(SourceRefusal::Memory),

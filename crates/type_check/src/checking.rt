@@ -67,19 +67,35 @@ fn found(alloc: Global, p: &Program) -> Result<Findings, TypeRefusal>
 }
 
 /// A program with what was found of it.
-fn with_findings(p: Program, findings: Findings) -> Checked
-    requires { IsChecked (program_of p) (ty_of findings.body) (each ty_of findings.inputs) (each note_of findings.notes) }
-    ensures { result.program ≡ p }
+fn with_findings(program: Program, findings: Findings) -> Checked
+    requires { IsChecked (program_of program) (ty_of findings.body) (each ty_of findings.inputs) (each note_of findings.notes) }
+    ensures { result.program ≡ program }
 {
     let Findings {
         body,
         inputs,
         notes,
     } = findings;
-    Checked::new(p, body, inputs, notes)
+    Checked::new(program, body, inputs, notes)
 }
 
-/// The program, which is moved and not copied, with the type of its body and the types of its inputs, both in normal form, and a
+/// A copy of a program with what was found of it.
+fn copy_with_findings(
+    alloc: Global,
+    p: &Program,
+    findings: Findings,
+) -> Result<Checked, TypeRefusal>
+    requires { IsChecked (program_of p.now) (ty_of findings.body) (each ty_of findings.inputs) (each note_of findings.notes) }
+    ensures program { IfOk result (λ c. c.program ≡ p.now) }
+    ensures memory { IfErr result (λ r. r ≡ TypeRefusal.Memory) }
+{
+    match p.copy(alloc) {
+        Ok(program) => Ok(with_findings(program, findings)),
+        Err(_) => Err(TypeRefusal::Memory),
+    }
+}
+
+/// A copy of the program with the type of its body and the types of its inputs, both in normal form, and a
 /// note for each expression of its definitions and its body (docs/LANGUAGE.md, "Notes"). It comes
 /// exactly where the program is typed and all measures hold (docs/LANGUAGE.md, "Typing").
 ///
@@ -92,12 +108,27 @@ fn with_findings(p: Program, findings: Findings) -> Checked
 /// form asks for, 26 for a box's content, 27 for a type that isn't the written one, 28 for a
 /// definition that is no syntactic value, and 29 and 30 for an input or a result that isn't
 /// printable. `Memory` where there was no memory.
-pub fn check(alloc: Global, p: Program) -> Result<Checked, TypeRefusal>
-    ensures checked { IfOk result (λ c. c.program ≡ p) }
-    ensures refused { IfErr result (λ r. Refuses (program_premises (program_of p)) r) }
+pub fn check(alloc: Global, p: &Program) -> Result<Checked, TypeRefusal>
+    ensures checked { IfOk result (λ c. c.program ≡ p.now) }
+    ensures refused { IfErr result (λ r. Refuses (program_premises (program_of p.now)) r) }
 {
-    match found(alloc, &p) {
-        Ok(findings) => Ok(with_findings(p, findings)),
+    match found(alloc, p) {
+        Ok(findings) => copy_with_findings(alloc, p, findings),
+        Err(refusal) => Err(refusal),
+    }
+}
+
+/// The same as `check` for a program that isn't used behind it: the program is moved, and not copied.
+///
+/// # Errors
+///
+/// Those of `check`.
+pub fn check_owned(alloc: Global, program: Program) -> Result<Checked, TypeRefusal>
+    ensures checked { IfOk result (λ c. c.program ≡ program) }
+    ensures refused { IfErr result (λ r. Refuses (program_premises (program_of program)) r) }
+{
+    match found(alloc, &program) {
+        Ok(findings) => Ok(with_findings(program, findings)),
         Err(refusal) => Err(refusal),
     }
 }
