@@ -18,8 +18,7 @@ use std::alloc::Global;
 pub fn scalar(alloc: Global, at: Span, atom: Atom) -> Result<Expr, NameRefusal>
     ensures { Answers expr_of result (Ok (scalar_of at (atom_of atom))) }
 {
-    let mut atoms = Vec::new(alloc);
-    atoms.push(atom)?;
+    let atoms = Vec::from_array(alloc, [atom])?;
     Ok(Expr::array(at, Items::new(alloc), Items::from_vec(atoms)))
 }
 
@@ -27,7 +26,7 @@ pub fn scalar(alloc: Global, at: Span, atom: Atom) -> Result<Expr, NameRefusal>
 fn characters(alloc: Global, at: Span, bytes: &[u8]) -> Result<Items<Atom>, NameRefusal>
     ensures { Answers atoms_of result (Ok (chars at bytes.now)) }
 {
-    let mut atoms = Vec::new(alloc);
+    let mut atoms = Vec::with_capacity(alloc, bytes.len())?;
     for byte in bytes {
         atoms.push(Atom {
             at,
@@ -42,8 +41,7 @@ pub fn text(alloc: Global, at: Span, bytes: &[u8]) -> Result<Expr, NameRefusal>
     requires { length bytes.now < 2 ^ 32 }
     ensures { Answers expr_of result (Ok (text_of at bytes.now)) }
 {
-    let mut dims = Vec::new(alloc);
-    dims.push(bytes.len() as u32)?;
+    let dims = Vec::from_array(alloc, [bytes.len() as u32])?;
     let dims = Items::from_vec(dims);
     if bytes.is_empty() {
         let element = Ty {

@@ -63,7 +63,7 @@ fn binders<'a>(
 ) -> Result<Vec<Binder<'a>>, NameRefusal>
     ensures { Answers (λ v. held_all v.items) result (read_binders at listing space (forms_of forms.now)) }
 {
-    let mut all = Vec::new(alloc);
+    let mut all = Vec::with_capacity(alloc, forms.len())?;
     for form in forms {
         let Some(binder) = listed_binder(form, listing, space) else {
             return Err(malformed(at));

@@ -53,7 +53,7 @@ fn number(form: &Sexp) -> Result<u32, NameRefusal>
 fn numbers(alloc: Global, forms: &[Sexp]) -> Result<Vec<u32>, NameRefusal>
     ensures { Answers (λ v. v.items) result (numbers_read (forms_of forms.now)) }
 {
-    let mut read = Vec::new(alloc);
+    let mut read = Vec::with_capacity(alloc, forms.len())?;
     for form in forms {
         let part = number(form)?;
         read.push(part)?;

@@ -195,7 +195,7 @@ fn exprs<'a>(
     ensures read { Answers exprs_of result (exprs_read scopes.old (forms_of forms.now)) }
     ensures same { OnOk result (scopes.new ≡ scopes.old) }
 {
-    let mut read = Vec::new(alloc);
+    let mut read = Vec::with_capacity(alloc, forms.len())?;
     for form in forms {
         let part = expr(alloc, scopes, form)?;
         read.push(part)?;
@@ -214,7 +214,7 @@ fn atoms<'a>(
     ensures read { Answers atoms_of result (atoms_read scopes.old (forms_of forms.now)) }
     ensures same { OnOk result (scopes.new ≡ scopes.old) }
 {
-    let mut read = Vec::new(alloc);
+    let mut read = Vec::with_capacity(alloc, forms.len())?;
     for form in forms {
         let part = atom(alloc, scopes, form)?;
         read.push(part)?;

@@ -77,7 +77,7 @@ pub fn index(alloc: Global, names: &Space, form: &Sexp) -> Result<Index, NameRef
 pub fn indices(alloc: Global, names: &Space, forms: &[Sexp]) -> Result<Items<Index>, NameRefusal>
     ensures { Answers indices_of result (indices_read names.now (forms_of forms.now)) }
 {
-    let mut read = Vec::new(alloc);
+    let mut read = Vec::with_capacity(alloc, forms.len())?;
     for form in forms {
         let part = index(alloc, names, form)?;
         read.push(part).map_err(|_| NameRefusal::Memory)?;

@@ -138,7 +138,7 @@ fn read_definitions<'a>(
     ensures read { Answers (λ ds. each def_of ds) result (definitions_read scopes.old.defs (forms_of forms.now)) }
     ensures known { OnOk result (scopes.new ≡ behind (all_known scopes.old.defs (forms_of forms.now))) }
 {
-    let mut read = Vec::new(alloc);
+    let mut read = Vec::with_capacity(alloc, forms.len())?;
     for form in forms {
         let part = read_definition(alloc, scopes, form)?;
         read.push(part)?;

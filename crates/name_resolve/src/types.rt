@@ -67,7 +67,7 @@ fn pair_sort(pair: &Sexp) -> Result<Sort, NameRefusal>
 pub fn pair_sorts(alloc: Global, pairs: &[Sexp]) -> Result<Items<Sort>, NameRefusal>
     ensures { Answers (λ ss. ss) result (pair_sorts_read (forms_of pairs.now)) }
 {
-    let mut read = Vec::new(alloc);
+    let mut read = Vec::with_capacity(alloc, pairs.len())?;
     for pair in pairs {
         let part = pair_sort(pair)?;
         read.push(part)?;
@@ -308,7 +308,7 @@ fn array_types<'a>(
     ensures read { Answers tys_of result (arrays_read scopes.old (forms_of forms.now)) }
     ensures same { OnOk result (scopes.new ≡ scopes.old) }
 {
-    let mut read = Vec::new(alloc);
+    let mut read = Vec::with_capacity(alloc, forms.len())?;
     for form in forms {
         let part = array_ty(alloc, scopes, form)?;
         read.push(part)?;
@@ -338,7 +338,7 @@ pub fn pair_arrays<'a>(
     ensures read { Answers tys_of result (pair_arrays_read scopes.old (forms_of pairs.now)) }
     ensures same { OnOk result (scopes.new ≡ scopes.old) }
 {
-    let mut read = Vec::new(alloc);
+    let mut read = Vec::with_capacity(alloc, pairs.len())?;
     for pair in pairs {
         let part = pair_array(alloc, scopes, pair)?;
         read.push(part)?;
@@ -356,7 +356,7 @@ pub fn types<'a>(
     ensures read { Answers (λ ts. each ty_of ts) result (types_read scopes.old (forms_of forms.now)) }
     ensures same { OnOk result (scopes.new ≡ scopes.old) }
 {
-    let mut read = Vec::new(alloc);
+    let mut read = Vec::with_capacity(alloc, forms.len())?;
     for form in forms {
         let part = ty(alloc, scopes, form)?;
         read.push(part)?;

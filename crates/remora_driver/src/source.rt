@@ -10,7 +10,7 @@ use core_syntax::{Checked, Program};
 use name_resolve::{NameRefusal, resolve};
 use sexp_reader::{Sexp, SexpRefusal, read};
 use std::alloc::Global;
-use type_check::{TypeRefusal, check};
+use type_check::{TypeRefusal, check_owned};
 
 // The program that forms mean.
 fn resolved(alloc: Global, forms: &[Sexp]) -> Result<Program, SourceRefusal>
@@ -39,10 +39,10 @@ fn source_program(alloc: Global, source: &[u8]) -> Result<Program, SourceRefusal
 }
 
 // The program with its types and notes.
-fn checked(alloc: Global, program: &Program) -> Result<Checked, SourceRefusal>
-    ensures { ChecksProgram program.now result }
+fn checked(alloc: Global, program: Program) -> Result<Checked, SourceRefusal>
+    ensures { ChecksProgram program result }
 {
-    match check(alloc, program) {
+    match check_owned(alloc, program) {
         Ok(checked) => Ok(checked),
         Err(TypeRefusal::Refused { number, span }) => Err(SourceRefusal::Refused { number, span }),
         Err(TypeRefusal::Memory) => Err(SourceRefusal::Memory),
@@ -55,7 +55,7 @@ fn check_short(alloc: Global, source: &[u8]) -> Result<Checked, SourceRefusal>
     ensures { ChecksSource source.now result }
 {
     match source_program(alloc, source) {
-        Ok(program) => checked(alloc, &program),
+        Ok(program) => checked(alloc, program),
         Err(refusal) => Err(refusal),
     }
 }

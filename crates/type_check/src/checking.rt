@@ -67,23 +67,35 @@ fn found(alloc: Global, p: &Program) -> Result<Findings, TypeRefusal>
 }
 
 /// A program with what was found of it.
-fn with_findings(alloc: Global, p: &Program, findings: Findings) -> Result<Checked, TypeRefusal>
-    requires { IsChecked (program_of p.now) (ty_of findings.body) (each ty_of findings.inputs) (each note_of findings.notes) }
-    ensures program { IfOk result (λ c. c.program ≡ p.now) }
-    ensures memory { IfErr result (λ r. r ≡ TypeRefusal.Memory) }
+fn with_findings(program: Program, findings: Findings) -> Checked
+    requires { IsChecked (program_of program) (ty_of findings.body) (each ty_of findings.inputs) (each note_of findings.notes) }
+    ensures { result.program ≡ program }
 {
     let Findings {
         body,
         inputs,
         notes,
     } = findings;
+    Checked::new(program, body, inputs, notes)
+}
+
+/// A copy of a program with what was found of it.
+fn copy_with_findings(
+    alloc: Global,
+    p: &Program,
+    findings: Findings,
+) -> Result<Checked, TypeRefusal>
+    requires { IsChecked (program_of p.now) (ty_of findings.body) (each ty_of findings.inputs) (each note_of findings.notes) }
+    ensures program { IfOk result (λ c. c.program ≡ p.now) }
+    ensures memory { IfErr result (λ r. r ≡ TypeRefusal.Memory) }
+{
     match p.copy(alloc) {
-        Ok(program) => Ok(Checked::new(program, body, inputs, notes)),
+        Ok(program) => Ok(with_findings(program, findings)),
         Err(_) => Err(TypeRefusal::Memory),
     }
 }
 
-/// The program with the type of its body and the types of its inputs, both in normal form, and a
+/// A copy of the program with the type of its body and the types of its inputs, both in normal form, and a
 /// note for each expression of its definitions and its body (docs/LANGUAGE.md, "Notes"). It comes
 /// exactly where the program is typed and all measures hold (docs/LANGUAGE.md, "Typing").
 ///
@@ -101,7 +113,22 @@ pub fn check(alloc: Global, p: &Program) -> Result<Checked, TypeRefusal>
     ensures refused { IfErr result (λ r. Refuses (program_premises (program_of p.now)) r) }
 {
     match found(alloc, p) {
-        Ok(findings) => with_findings(alloc, p, findings),
+        Ok(findings) => copy_with_findings(alloc, p, findings),
+        Err(refusal) => Err(refusal),
+    }
+}
+
+/// The same as `check` for a program that isn't used behind it: the program is moved, and not copied.
+///
+/// # Errors
+///
+/// Those of `check`.
+pub fn check_owned(alloc: Global, program: Program) -> Result<Checked, TypeRefusal>
+    ensures checked { IfOk result (λ c. c.program ≡ program) }
+    ensures refused { IfErr result (λ r. Refuses (program_premises (program_of program)) r) }
+{
+    match found(alloc, &program) {
+        Ok(findings) => Ok(with_findings(program, findings)),
         Err(refusal) => Err(refusal),
     }
 }

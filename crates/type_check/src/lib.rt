@@ -31,7 +31,7 @@ mod values;
 mod variables;
 mod written;
 
-pub use checking::check;
+pub use checking::{check, check_owned};
 pub use context::Context;
 pub use laws::{accepted_is_typed, refusals_of_programs};
 pub use refusal::TypeRefusal;

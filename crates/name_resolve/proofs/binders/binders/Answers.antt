@@ -6,7 +6,7 @@ use Rattle.name_resolve.proofs.Refusals.{is_refused}
 use Rattle.name_resolve.proofs.binders.binders.Goals as goal
 
 pub loop-form-init : goal.loop-form-init
-loop-form-init c = prefixed-none c.new-all.result.items (listed_binders c.args.listing c.args.space (forms_of c.args.forms.now)) c.new-all.ensures.items
+loop-form-init c = prefixed-none c.in_ok-all.all.items (listed_binders c.args.listing c.args.space (forms_of c.args.forms.now)) c.in_ok-all.ensures.items
 
 pub returns-in_default : goal.returns-in_default
 returns-in_default c =

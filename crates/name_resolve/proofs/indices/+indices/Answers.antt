@@ -35,13 +35,13 @@ index-returns-in_ok-parts-in-Seq t c =
     ∙ ap Ok (sym (c.index_form.ensures c.args.form.now.at))
 
 pub indices-loop-form-init : goal.indices-loop-form-init
-indices-loop-form-init t c = loop_init index_of more (indices c.args.names.now) c.args.forms.now c.new-read.result.items c.new-read.ensures.items
+indices-loop-form-init t c = loop_init index_of more (indices c.args.names.now) c.args.forms.now c.in_ok-read.read.items c.in_ok-read.ensures.items
 
 pub indices-returns-in_err-part : goal.indices-returns-in_err-part
 indices-returns-in_err-part t c =
     let h = loop_refused index_of (index c.args.names.now) (indices c.args.names.now) end more refl (λ f fs. refl) (indices c.args.names.now (forms_of c.args.forms.now)) c.args.forms.now c.loop-form.form-index
     c.loop-form.read.items c.loop-form.invariant c.form-item.result c.form-item.result c.loop-form-test.true c.form-item.is c.in_err-part.field-0.0 c.in_err-part.ensures in
-    same_answer indices_of c.from_residual.result _ (indices c.args.names.now (forms_of c.args.forms.now)) refl (search rules)
+    same_answer indices_of c.from_residual-in_err-part.result _ (indices c.args.names.now (forms_of c.args.forms.now)) refl (search rules)
 
 pub indices-loop-form-preserved : goal.indices-loop-form-preserved
 indices-loop-form-preserved t c =

@@ -11,7 +11,7 @@ use Rattle.name_resolve.proofs.top.read_definitions.Goals as goal
 
 pub loop-form-init : goal.loop-form-init
 loop-form-init c =
-    (c.requires.behind, refl, loop_init def_of (λ d ds. d ∷ ds) (definitions_read c.args.scopes.now.defs) c.args.forms.now c.new-read.result.items c.new-read.ensures.items, omega arith)
+    (c.requires.behind, refl, loop_init def_of (λ d ds. d ∷ ds) (definitions_read c.args.scopes.now.defs) c.args.forms.now c.in_ok-read.read.items c.in_ok-read.ensures.items, omega arith)
 
 pub read_definition-requires-clause-behind : goal.read_definition-requires-clause-behind
 read_definition-requires-clause-behind c = c.loop-form.invariant.0
@@ -22,7 +22,7 @@ read_definition-requires-clause-room c =
 
 pub returns-in_err-part-clause-read : goal.returns-in_err-part-clause-read
 returns-in_err-part-clause-read c =
-    carried (λ ds. each def_of ds) c.from_residual.result c.in_err-part.field-0.0 (definitions_read c.args.scopes.now.defs (forms_of c.args.forms.now)) c.from_residual.ensures.1
+    carried (λ ds. each def_of ds) c.from_residual-in_err-part.result c.in_err-part.field-0.0 (definitions_read c.args.scopes.now.defs (forms_of c.args.forms.now)) c.from_residual-in_err-part.ensures.1
     (defs_refused c.args.forms.now c.loop-form.form-index c.form-item.result c.form-item.result c.loop-form-test.true c.form-item.is c.args.scopes.now.defs c.loop-form.scopes.defs c.loop-form.read.items c.loop-form.invariant.2
     c.in_err-part.field-0.0 c.in_err-part.ensures.read)
 

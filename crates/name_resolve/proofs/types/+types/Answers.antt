@@ -154,7 +154,7 @@ quantified-array_ty-requires t c =
     )
 
 pub array_types-loop-form-init : goal.array_types-loop-form-init
-array_types-loop-form-init t c = (refl, loop_init ty_of more_tys (arrays c.args.scopes.now) c.args.forms.now c.new-read.result.items c.new-read.ensures.items)
+array_types-loop-form-init t c = (refl, loop_init ty_of more_tys (arrays c.args.scopes.now) c.args.forms.now c.in_ok-read.read.items c.in_ok-read.ensures.items)
 
 pub array_types-array_ty-requires : goal.array_types-array_ty-requires
 array_types-array_ty-requires t c =
@@ -166,7 +166,7 @@ array_types-returns-in_err-part-clause-read t c =
     let h = loop_refused ty_of (array_ty c.args.scopes.now) (arrays c.args.scopes.now) no_tys more_tys refl (λ f fs. refl) (arrays c.args.scopes.now (forms_of c.args.forms.now)) c.args.forms.now
     c.loop-form.form-index c.loop-form.read.items c.loop-form.invariant.1 c.form-item.result c.form-item.result c.loop-form-test.true c.form-item.is c.in_err-part.field-0.0
     (subst (λ Γ. Refuses c.in_err-part.field-0.0 (array_ty Γ (form_of c.form-item.result))) c.loop-form.invariant.0 c.in_err-part.ensures.read) in
-    same_answer tys_of c.from_residual.result _ (arrays c.args.scopes.now (forms_of c.args.forms.now)) refl (search rules)
+    same_answer tys_of c.from_residual-in_err-part.result _ (arrays c.args.scopes.now (forms_of c.args.forms.now)) refl (search rules)
 
 pub array_types-loop-form-preserved : goal.array_types-loop-form-preserved
 array_types-loop-form-preserved t c = (

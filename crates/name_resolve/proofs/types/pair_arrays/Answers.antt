@@ -12,7 +12,7 @@ use Rattle.name_resolve.proofs.RoomLemmas.{room_less, item_size}
 use Rattle.name_resolve.proofs.types.pair_arrays.Goals as goal
 
 pub loop-pair-init : goal.loop-pair-init
-loop-pair-init c = (refl, loop_init ty_of more_tys (pair_arrays c.args.scopes.now) c.args.pairs.now c.new-read.result.items c.new-read.ensures.items)
+loop-pair-init c = (refl, loop_init ty_of more_tys (pair_arrays c.args.scopes.now) c.args.pairs.now c.in_ok-read.read.items c.in_ok-read.ensures.items)
 
 pub pair_array-requires : goal.pair_array-requires
 pair_array-requires c =
@@ -23,7 +23,7 @@ pub returns-in_err-part-clause-read : goal.returns-in_err-part-clause-read
 returns-in_err-part-clause-read c =
     let h = loop_refused ty_of (pair_array c.args.scopes.now) (pair_arrays c.args.scopes.now) no_tys more_tys refl (λ f fs. refl) ((pair_arrays c.args.scopes.now) (forms_of c.args.pairs.now)) c.args.pairs.now c.loop-pair.pair-index c.loop-pair.read.items c.loop-pair.invariant.1
     c.pair-item.result c.pair-item.result c.loop-pair-test.true c.pair-item.is c.in_err-part.field-0.0 (subst (λ Γ. Refuses c.in_err-part.field-0.0 (pair_array Γ (form_of c.pair-item.result))) c.loop-pair.invariant.0 c.in_err-part.ensures.read) in
-    same_answer tys_of c.from_residual.result _ ((pair_arrays c.args.scopes.now) (forms_of c.args.pairs.now)) refl (search rules)
+    same_answer tys_of c.from_residual-in_err-part.result _ ((pair_arrays c.args.scopes.now) (forms_of c.args.pairs.now)) refl (search rules)
 
 pub loop-pair-preserved : goal.loop-pair-preserved
 loop-pair-preserved c = (

@@ -7,13 +7,13 @@ use Rattle.name_resolve.proofs.Refusals.{same_answer}
 use Rattle.name_resolve.proofs.types.pair_sorts.Goals as goal
 
 pub loop-pair-init : goal.loop-pair-init
-loop-pair-init c = loop_init (λ s. s) (λ s ss. s ∷ ss) pair_sorts c.args.pairs.now c.new-read.result.items c.new-read.ensures.items
+loop-pair-init c = loop_init (λ s. s) (λ s ss. s ∷ ss) pair_sorts c.args.pairs.now c.in_ok-read.read.items c.in_ok-read.ensures.items
 
 pub returns-in_err-part : goal.returns-in_err-part
 returns-in_err-part c =
     let h = loop_refused (λ s. s) pair_sort pair_sorts [] (λ s ss. s ∷ ss) refl (λ f fs. refl) (pair_sorts (forms_of c.args.pairs.now)) c.args.pairs.now c.loop-pair.pair-index c.loop-pair.read.items c.loop-pair.invariant
     c.pair-item.result c.pair-item.result c.loop-pair-test.true c.pair-item.is c.in_err-part.field-0.0 c.in_err-part.ensures in
-    same_answer (λ ss. ss) c.from_residual.result _ (pair_sorts (forms_of c.args.pairs.now)) refl (search rules)
+    same_answer (λ ss. ss) c.from_residual-in_err-part.result _ (pair_sorts (forms_of c.args.pairs.now)) refl (search rules)
 
 pub loop-pair-preserved : goal.loop-pair-preserved
 loop-pair-preserved c =

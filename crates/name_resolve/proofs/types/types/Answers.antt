@@ -12,7 +12,7 @@ use Rattle.name_resolve.proofs.RoomLemmas.{room_less, item_size}
 use Rattle.name_resolve.proofs.types.types.Goals as goal
 
 pub loop-form-init : goal.loop-form-init
-loop-form-init c = (refl, loop_init ty_of (λ t ts. t ∷ ts) (types c.args.scopes.now) c.args.forms.now c.new-read.result.items c.new-read.ensures.items)
+loop-form-init c = (refl, loop_init ty_of (λ t ts. t ∷ ts) (types c.args.scopes.now) c.args.forms.now c.in_ok-read.read.items c.in_ok-read.ensures.items)
 
 pub ty-requires : goal.ty-requires
 ty-requires c =
@@ -23,7 +23,7 @@ pub returns-in_err-part-clause-read : goal.returns-in_err-part-clause-read
 returns-in_err-part-clause-read c =
     let h = loop_refused ty_of (ty c.args.scopes.now) (types c.args.scopes.now) [] (λ t ts. t ∷ ts) refl (λ f fs. refl) ((types c.args.scopes.now) (forms_of c.args.forms.now)) c.args.forms.now c.loop-form.form-index c.loop-form.read.items c.loop-form.invariant.1
     c.form-item.result c.form-item.result c.loop-form-test.true c.form-item.is c.in_err-part.field-0.0 (subst (λ Γ. Refuses c.in_err-part.field-0.0 (ty Γ (form_of c.form-item.result))) c.loop-form.invariant.0 c.in_err-part.ensures.read) in
-    same_answer (λ ts. each ty_of ts) c.from_residual.result _ ((types c.args.scopes.now) (forms_of c.args.forms.now)) refl (search rules)
+    same_answer (λ ts. each ty_of ts) c.from_residual-in_err-part.result _ ((types c.args.scopes.now) (forms_of c.args.forms.now)) refl (search rules)
 
 pub loop-form-preserved : goal.loop-form-preserved
 loop-form-preserved c = (
