@@ -201,11 +201,11 @@ fn write_answer<O: Sink>(out: &mut O, answer: Reply) -> Status
 ///
 /// `words` leaves out the program's own name. `program` is read to its end where the words ask for a job on a program source,
 /// and is left alone where they don't, or ask for the soak program. Then `input` is read to its end where the program or the
-/// code has inputs and isn't refused, and is left alone where not: with each `Refused`, and where a read of `program` failed,
-/// whatever the two tell (`input_unread_refused`, `input_unread_fault`), and where the program source tells bytes that take no
-/// data (`input_unread`). Of either, where it is too long, one byte past the limit is taken. The whole text is made before the
-/// first write to `out`. The status is that of the answer, whose text was written whole, or one of `ReadFault` and `Memory`,
-/// where nothing was written, and `WriteFault`, where a front of the text was.
+/// code has inputs and isn't refused, and is left alone where not: where no job takes data, by the bytes that the source tells
+/// (`input_unread`), and, whatever it tells, with each `Refused` (`input_unread_refused`) and where the count of faults of
+/// `program` rose (`input_unread_fault`). Of either, where it is too long, one byte past the limit is taken. The whole text is
+/// made before the first write to `out`. The status is that of the answer, whose text was written whole, or one of `ReadFault`
+/// and `Memory`, where nothing was written, and `WriteFault`, where a front of the text was.
 pub fn remora<P: Source, I: Source, O: Sink>(
     alloc: Global,
     words: &[String],
